@@ -1,0 +1,4 @@
+pub mod Congruent
+pub mod Made
+pub mod Refusals
+pub mod Residue
