@@ -83,22 +83,30 @@ residue-at-residues M p t w l s =
 -- ---- the residue of a multiple
 
 -- (−t) mod M
-residue-neg : (M t : ℕ) → 0 < M → Rest M (residue M (negℤ (pos t))) 0 t
-residue-neg M zero h = (mod-lt 0 h, record { i = 0 / M; j = 0; is = omega (arith, div-add-mod' 0 M) })
-residue-neg M (suc t) h =
+rest-of-negative : (M t : ℕ) → 0 < M → Rest M (residue M (negℤ (pos t))) 0 t
+rest-of-negative M zero h = (mod-lt 0 h, record { i = 0 / M; j = 0; is = omega (arith, div-add-mod' 0 M) })
+rest-of-negative M (suc t) h =
     let m : t % M < M = mod-lt t h in
     (omega arith, record { i = 0; j = suc (t / M); is = omega (arith, div-add-mod' t M) })
+
+rest-times : (M w p t k : ℕ) → 0 < M → Same M (w + t) p → Rest M (w * k % M) (p * k) (t * k)
+rest-times M w p t k h s = (
+  mod-lt (w * k) h,
+  record {
+    i = s .i * k + w * k / M;
+    j = s .j * k;
+    is = omega (arith, ap (λ n. n * k) (s .is), div-add-mod' (w * k) M);
+  },
+)
 
 -- z·k mod M is w·k mod M for the residue w of z
 pub residue-times : (M : ℕ) (z : ℤ) (k : ℕ) → 0 < M → residue M (z *ℤ pos k) ≡ residue M z * k % M
 residue-times M (pos n) k h =
-    same-below M (n * k % M) (n % M * k % M) (mod-lt (n * k) h) (mod-lt (n % M * k) h)
-    (record {
-      i = n * k / M;
-      j = n % M * k / M + n / M * k;
-      is = omega (arith, div-add-mod' (n * k) M, div-add-mod' (n % M * k) M, ap (λ m. m * k) (div-add-mod' n M));
-    })
+    rest-is-one M (n * k % M) (n % M * k % M) (n * k) (0 * k)
+    (mod-lt (n * k) h, record { i = n * k / M; j = 0; is = omega (arith, div-add-mod' (n * k) M) })
+    (rest-times M (n % M) n 0 k h (record { i = n / M; j = 0; is = omega (arith, div-add-mod' n M) }))
 residue-times M (negsuc n) k h =
-    let w = M - 1 - n % M in
-    let r = residue-neg M (suc n * k) h in
-    ?
+    let r = rest-of-negative M (suc n * k) h in
+    rest-is-one M (residue M (negℤ (pos (suc n * k)))) ((M - 1 - n % M) * k % M) (0 * k) (suc n * k)
+    (r .0, record { i = r .1 .i; j = r .1 .j; is = omega (arith, r .1 .is) })
+    (rest-times M (M - 1 - n % M) 0 (suc n) k h (rest-of-negative M (suc n) h .1))

@@ -19,11 +19,11 @@ impl Modulus {
         ensures is_the_residue { λ r. ⌜ r ≡ residue (self .value) z ⌝ }
         ensures below_the_modulus { λ r. ⌜ r < self .value ⌝ }
     {
-        let n = z.unsigned_abs();
+        let size = z.unsigned_abs();
         if z < 0 {
-            self.value - 1 - (n - 1) % self.value
+            self.value - 1 - (size - 1) % self.value
         } else {
-            n % self.value
+            self.residue(size)
         }
     }
 
