@@ -1,5 +1,5 @@
 -- Congruence mod M over the natural numbers, and the residues of differences and of multiples.
-use mathlib.Core.Path.{_≡_, refl, sym, ap, _∙_}
+use mathlib.Core.Path.{_≡_, sym, ap, _∙_}
 use Prim.Native.Nat.{ℕ, zero, suc, _+_, _-_, _*_, _/_, _%_, _≤_, _<_}
 use native.Mathlib.Nat.{div-add-mod', mod-lt, mod-eq-of-lt, add-mul-mod-self-right, le-of-mul-le-mul-right}
 use native.Mathlib.Omega.{arith}
@@ -21,10 +21,6 @@ quotient M t p q h e =
 pub same-below : (M w z : ℕ) → w < M → z < M → Same M w z → w ≡ z
 same-below M w z h l s =
     sym (mod-eq-of-lt h) ∙ sym (add-mul-mod-self-right w (s .i) M) ∙ ap (λ n. n % M) (s .is) ∙ add-mul-mod-self-right z (s .j) M ∙ mod-eq-of-lt l
-
--- a number differs from its residue by a multiple of M
-pub same-as-mod : (M p : ℕ) → Same M (p % M) p
-same-as-mod M p = record { i = p / M; j = 0; is = omega (arith, div-add-mod' p M) }
 
 -- ---- the residue of a difference
 

@@ -12,7 +12,7 @@ pub trait Arithmetic: Copy {
     /// The largest modulus that the arithmetic carries. Generic code reads it by `limit`.
     const LARGEST: u64;
 
-    // The largest modulus, for clauses: what carries less than 2^40 is no arithmetic.
+    // The same number, for clauses.
     ghost largest: { ℕ };
 
     // How many units a length has.
@@ -21,10 +21,13 @@ pub trait Arithmetic: Copy {
     // The arithmetic's own order.
     ghost before: { Self → Self → Bool };
 
+    // Every modulus, up to 2^40, is carried.
     law reaches: { 2 ^ 40 ≤ largest };
 
+    // The order is that of the units.
     law ordered: { (x y : Self) → before x y ≡ ltb (units x) (units y) };
 
+    // Of two lengths one comes before the other, or they have the same units.
     law total: { (x y : Self) → T (before x y) ⊎ ((units x ≡ units y) ⊎ T (before y x)) };
 
     /// The largest modulus: `Self::LARGEST`, which no clause of generic code can name.
