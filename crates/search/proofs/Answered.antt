@@ -8,17 +8,19 @@ use lib.Dec.{ltb, leb}
 use Rattle.std.specs.declared.option.Option.{Option}
 use Rattle.std.specs.declared.option.Option.the-variants.{Some, None}
 use Rattle.std.proofs.shelf.Tests.{cases-lt, cases-order, lt-ltb, le-ltb}
-use Rattle.search.proofs.Same.{distance-at}
+use Rattle.search.proofs.Distances.{distance-at}
 use Rattle.search.proofs.Sound.{gap-is, nearest, only}
 use Rattle.search.proofs.Complete.{fine-start}
 use Rattle.search.proofs.Reach.{arrive}
-use Rattle.search.specs.Points.{Config, start, distance, gap, configFor, least}
-use Rattle.search.specs.Search.{evidence, closeAt, answer}
-use Rattle.search.specs.Walk.{Same, Shares, Holds, Towards, Walks, Hits, placed, shown}
-use Rattle.search.specs.declared.search.Place.{Place}
-use Rattle.search.specs.declared.search.Evidence.{Evidence}
-use Rattle.search.specs.declared.search.Answer.{Answer}
-use Rattle.search.specs.declared.search.Answer.the-variants.{Close, Clear}
+use Rattle.search.specs.Points.{distance, least}
+use Rattle.search.specs.Configurations.{Config, start, gap, configFor}
+use Rattle.search.specs.Answers.{evidence, closeAt, answer}
+use Rattle.grid.specs.Congruent.{Same}
+use Rattle.search.specs.Vouching.{config-of}
+use Rattle.search.specs.Walk.{Spot, Shares, Holds, Towards, Walks, Hits, placed}
+use Rattle.search.specs.declared.evidence.Evidence.{Evidence}
+use Rattle.search.specs.declared.answer.Answer.{Answer}
+use Rattle.search.specs.declared.answer.Answer.the-variants.{Close, Clear}
 
 pub least-none : (p : ℕ → Bool) (n : ℕ) → ((j : ℕ) → j < n → p j ≡ false) → least p n ≡ n
 least-none p zero h = refl
@@ -77,7 +79,7 @@ close-is M a b D n zero w e h s = absurd (omega (arith, s .from))
 close-is M a b D n (suc k) w e h s =
     at-least M a b D n (suc k) (s .below) (omega (arith, s .value, s .close)) (s .least)
     ∙ ap (λ d. Close (suc k) d (Some (evidence M a b (suc k)))) (sym (s .value))
-    ∙ ap (λ d. Close (suc k) w (Some d)) (evidence-is M a b (suc k) (shown e) (e .r) h (s .config) (s .held))
+    ∙ ap (λ d. Close (suc k) w (Some d)) (evidence-is M a b (suc k) (config-of e) (e .r) h (s .config) (s .held))
 
 at-zero : (M a b : ℕ) → b < M → distance M a b 0 ≡ b
 at-zero M a b l = distance-at M a b 0 b l (record { i = 0; j = 0; is = omega arith })
@@ -149,7 +151,7 @@ two-walks M a b D n r d h l z f o =
         o
 
 -- the walk has come to n
-pub walked : (M a b D n : ℕ) (s : Place) → 0 < M → Walks M a b D n s → n ≤ s .u + s .v →
+pub walked : (M a b D n : ℕ) (s : Spot) → 0 < M → Walks M a b D n s → n ≤ s .u + s .v →
     answer M a b D n ≡ Clear (record { u = s .u; v = s .v; x = s .x; y = s .y; r = s .r })
 walked M a b D n s h w l =
     let e : min n (s .u + s .v) ≡ n = omega arith in

@@ -6,10 +6,12 @@ use Prim.Native.Nat.{ℕ, zero, suc, _+_, _-_, _*_, _%_, _≤_, _<_}
 use native.Mathlib.Omega.{arith}
 use lib.Dec.{leb, ltb}
 use Rattle.std.proofs.shelf.Tests.{cases-lt, cases-order, ltb-true, ltb-false, leb-true, leb-false, cond-both}
-use Rattle.search.proofs.Same.{distance-is, distance-at}
+use Rattle.search.proofs.Distances.{distance-is, distance-at}
 use Rattle.search.proofs.Sound.{Gap, gap-is}
-use Rattle.search.specs.Walk.{Same, Shares, Holds}
-use Rattle.search.specs.Points.{Config, start, next, firstFrom, configFor, distance, gap}
+use Rattle.grid.specs.Congruent.{Same}
+use Rattle.search.specs.Walk.{Shares, Holds}
+use Rattle.search.specs.Points.{distance}
+use Rattle.search.specs.Configurations.{Config, start, next, firstFrom, configFor, gap}
 
 -- an index of least value, the first or the last such
 abbrev pub First : (f : ℕ → ℕ) (n : ℕ) → Type 0
@@ -18,7 +20,7 @@ First f n = (r : ℕ) × (r < n) × ((k : ℕ) → k < n → f r ≤ f k) × ((k
 abbrev pub Last : (f : ℕ → ℕ) (n : ℕ) → Type 0
 Last f n = (r : ℕ) × (r < n) × ((k : ℕ) → k < n → f r ≤ f k) × ((k : ℕ) → k < n → r < k → f r < f k)
 
-below-suc : {P : ℕ → Type 0} (n : ℕ) → ((k : ℕ) → k < n → P k) → P n → (k : ℕ) → k < suc n → P k
+pub below-suc : {P : ℕ → Type 0} (n : ℕ) → ((k : ℕ) → k < n → P k) → P n → (k : ℕ) → k < suc n → P k
 below-suc {P} n f g k l =
     ⊎-elim (λ e. subst P (sym e) g) (λ o. f k (⊎-elim (λ (z : k < n). z) (λ z. absurd (omega arith)) o)) (cases-order k n)
 

@@ -5,8 +5,9 @@ use Prim.Native.Nat.{ℕ, zero, suc, _+_, _-_, _*_, _≤_, _<_}
 use native.Mathlib.Nat.{eq-of-mul-eq-mul-right, mul-le-mul-right}
 use native.Mathlib.Omega.{arith}
 use Rattle.std.proofs.shelf.Tests.{cases-lt}
-use Rattle.search.specs.Walk.{Same, Shares}
-use Rattle.search.proofs.Same.{quotient}
+use Rattle.grid.specs.Congruent.{Same}
+use Rattle.search.specs.Walk.{Shares}
+use Rattle.grid.proofs.Congruence.{quotient}
 
 -- where a point lies that stands δ above another and d indices later
 abbrev pub Ahead : (x y u v d δ : ℕ) → Type 0

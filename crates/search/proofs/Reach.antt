@@ -6,8 +6,9 @@ use native.Mathlib.Omega.{arith}
 use lib.Dec.{leb, ltb}
 use Rattle.std.proofs.shelf.Tests.{le-leb, lt-leb}
 use Rattle.search.proofs.Complete.{by-next}
-use Rattle.search.specs.Points.{Config, next, firstFrom, configFor}
-use Rattle.search.specs.Walk.{Same, Shares, Towards}
+use Rattle.search.specs.Configurations.{Config, next, firstFrom, configFor}
+use Rattle.grid.specs.Congruent.{Same}
+use Rattle.search.specs.Walk.{Shares, Towards}
 
 pub config-path : {x x′ y y′ u u′ v v′ : ℕ} → x ≡ x′ → y ≡ y′ → u ≡ u′ → v ≡ v′ →
     _≡_ {A = Config} (record { x = x; y = y; u = u; v = v }) (record { x = x′; y = y′; u = u′; v = v′ })

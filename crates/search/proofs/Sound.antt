@@ -8,10 +8,15 @@ use native.Mathlib.Omega.{arith}
 use lib.Dec.{leb, ltb}
 use lib.IntN.{pos, _-ℤ_}
 use Rattle.std.proofs.shelf.Tests.{cases-lt, cases-order, ltb-true, ltb-false, leb-true, leb-false, cond-both}
-use Rattle.search.proofs.Same.{quotient, distance-is, residue-sub}
+use Rattle.grid.proofs.Congruence.{quotient, residue-sub}
+use Rattle.search.proofs.Distances.{distance-is}
 use Rattle.search.proofs.Lattice.{Ahead, ahead, behind}
-use Rattle.search.specs.Walk.{Same, Shares, Holds}
-use Rattle.search.specs.Points.{Config, distance, gap, residue, Vouch}
+use Rattle.grid.specs.Congruent.{Same}
+use Rattle.search.specs.Walk.{Shares, Holds}
+use Rattle.grid.specs.Residue.{residue}
+use Rattle.search.specs.Points.{distance}
+use Rattle.search.specs.Configurations.{Config, gap}
+use Rattle.search.specs.Vouching.{Vouches, config-of}
 
 -- the gap after r, by cases
 abbrev pub Gap : (n : ℕ) (c : Config) (r g : ℕ) → Type 0

@@ -1,6 +1,7 @@
 // The program: reads lines of curves from standard input and prints the close points of each.
-use search::search::Answer;
-use search::search::search;
+use lengths::whole::WholeNumbers;
+use search::answer::Answer;
+use search::search;
 use std::error::AnyError;
 use std::io::BufRead;
 use std::io::BufReader;
@@ -124,19 +125,9 @@ fn answer(rt: &LibcRuntime, line: u32, bytes: &[u8]) -> Result<(), AnyError> {
     match read(bare(bytes)) {
         Err(refusal) => println!(rt, "curve {line} refused {refusal}")?,
         Ok((o, threshold)) => {
-            let found = if 2 <= o.modulus
-                && o.modulus <= 1 << 40
-                && o.slope < o.modulus
-                && o.offset < o.modulus
-                && 1 <= o.count
-                && o.count <= 1 << 20
-            {
-                match search(o.modulus, o.slope, o.offset, threshold, o.count) {
-                    Answer::Close(k, _, _) => Some(k),
-                    Answer::Clear(_) => None,
-                }
-            } else {
-                None
+            let found = match search::<u64>(o.modulus, o.slope, o.offset, threshold, o.count) {
+                Ok(Answer::Close { index, .. }) => Some(index),
+                Ok(Answer::Clear { .. }) | Err(_) => None,
             };
             match found {
                 Some(k) => println!(rt, "curve {line} first hit {k}")?,
