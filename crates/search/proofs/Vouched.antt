@@ -24,18 +24,18 @@ holds M a b D n c h s =
         x-is = record {
           i = c .v * a / M;
           j = c .x / M;
-          is = omega (arith, s .x-is, div-add-mod' (c .x) M, div-add-mod' (c .v * a) M);
+          is = omega (arith, s .fills .x-is, div-add-mod' (c .x) M, div-add-mod' (c .v * a) M);
         };
         y-is = record {
           i = y .i;
           j = y .j + c .y / M;
-          is = omega (arith, y .is, s .y-is, div-add-mod' (c .y) M);
+          is = omega (arith, y .is, s .fills .y-is, div-add-mod' (c .y) M);
         };
-        whole = s .whole;
+        whole = s .fills .whole;
       };
-      enough = s .enough;
-      below = s .below;
-      inside = s .inside;
+      enough = s .within .enough;
+      below = s .within .r-below;
+      inside = s .clears .inside;
     }
 
 pub vouch : (M a b D n : ℕ) (c : Evidence) → 0 < M → Fine M a n (config-of c) → Holds M a b n (config-of c) (c .r) → D ≤ distance M a b (c .r) → Vouches M a b D n c
@@ -44,21 +44,24 @@ vouch M a b D n c h f s l =
     let x = s .shares .x-is in
     let z = s .shares .y-is in
     record {
-      u-from = f .u-from;
-      u-to = f .u-to;
-      v-from = f .v-from;
-      v-to = f .v-to;
-      enough = s .enough;
-      x-to = omega (arith, s .shares .whole, mul-le-mul-right (c .x) (f .u-from));
-      y-to = omega (arith, s .shares .whole, mul-le-mul-right (c .y) (f .v-from));
-      x-is = same-below M (c .x % M) (c .v * a % M) (mod-lt (c .x) h) (mod-lt (c .v * a) h)
-          (record { i = c .x / M + x .i; j = c .v * a / M + x .j; is = omega (arith, x .is, div-add-mod' (c .x) M, div-add-mod' (c .v * a) M) });
-      y-is = same-below M (c .y % M) (residue M (pos 0 -ℤ pos (c .u * a))) (mod-lt (c .y) h) (y .0)
-          (record { i = c .y / M + z .i + y .1 .j; j = z .j + y .1 .i; is = omega (arith, z .is, y .1 .is, div-add-mod' (c .y) M) });
-      whole = s .shares .whole;
-      below = s .below;
-      far = l;
-      inside = s .inside;
+      within = record {
+        u-from = f .u-from;
+        u-to = f .u-to;
+        v-from = f .v-from;
+        v-to = f .v-to;
+        enough = s .enough;
+        x-to = omega (arith, s .shares .whole, mul-le-mul-right (c .x) (f .u-from));
+        y-to = omega (arith, s .shares .whole, mul-le-mul-right (c .y) (f .v-from));
+        r-below = s .below;
+      };
+      fills = record {
+        x-is = same-below M (c .x % M) (c .v * a % M) (mod-lt (c .x) h) (mod-lt (c .v * a) h)
+            (record { i = c .x / M + x .i; j = c .v * a / M + x .j; is = omega (arith, x .is, div-add-mod' (c .x) M, div-add-mod' (c .v * a) M) });
+        y-is = same-below M (c .y % M) (residue M (pos 0 -ℤ pos (c .u * a))) (mod-lt (c .y) h) (y .0)
+            (record { i = c .y / M + z .i + y .1 .j; j = z .j + y .1 .i; is = omega (arith, z .is, y .1 .is, div-add-mod' (c .y) M) });
+        whole = s .shares .whole;
+      };
+      clears = record { far = l; inside = s .inside };
     }
 
 pub least-distance : Vouching-numbers-give-the-least-distance
@@ -70,7 +73,7 @@ with-index c r = record { u = c .u; v = c .v; x = c .x; y = c .y; r = r }
 
 pub vouch-exactly : Numbers-vouch-exactly-when-no-point-is-close
 vouch-exactly M a b D n h l z = (
-  λ e k o. omega (arith, e .1 .far, least-distance M a b D n (e .0) h (e .1) k o),
+  λ e k o. omega (arith, e .1 .clears .far, least-distance M a b D n (e .0) h (e .1) k o),
   λ f.
       let e = fine-for M a n (omega arith) z in
       let (r, s) = held M a b n (configFor M a n) h z (e .fine) (e .enough) in

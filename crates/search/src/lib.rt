@@ -12,6 +12,7 @@ pub mod evidence;
 mod place;
 pub mod refusal;
 pub mod stretch;
+pub mod vouching;
 
 /// Looks for the least k below `points` with (offset − k·slope) mod modulus below the threshold, in any arithmetic.
 pub fn search<A: Arithmetic>(
