@@ -43,6 +43,16 @@ pub(crate) fn take_off<A: Arithmetic>(length: A, part: A, most: u64) -> (u64, A)
     }
 }
 
+/// One part less, where the parts use up a longer length: it leaves that part.
+fn one_less<A: Arithmetic>(length: A, part: A, times: u64) -> u64
+    requires used_up { ⌜ times * units part ≡ units length ⌝ }
+    requires longer { ⌜ units part < units length ⌝ }
+    ensures at_least_one { λ r. ⌜ 1 ≤ r ⌝ ∗ ⌜ r ≤ times ⌝ }
+    ensures leaves_a_part { λ r. ⌜ r * units part < units length ⌝ ∗ ⌜ units part ≡ units length - r * units part ⌝ }
+{
+    times - 1
+}
+
 /// Takes `part` off `length`, which is longer, as often as something is left, at most `most` times: how often, and what is left.
 pub(crate) fn shorten<A: Arithmetic>(length: A, part: A, most: u64) -> (u64, A)
     requires carried { ⌜ units length ≤ largest ⌝ }
@@ -55,7 +65,7 @@ pub(crate) fn shorten<A: Arithmetic>(length: A, part: A, most: u64) -> (u64, A)
 {
     let (times, rest) = take_off(length, part, most);
     if is_nothing(rest) {
-        (times - 1, part)
+        (one_less(length, part, times), part)
     } else {
         (times, rest)
     }
