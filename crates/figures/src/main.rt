@@ -158,3 +158,68 @@ fn run(rt: &LibcRuntime) -> Result<(), AnyError> {
 fn main(rt: LibcRuntime) -> Result<(), AnyError> {
     rt.report(run(&rt))
 }
+
+#[cfg(test)]
+mod tests {
+    use lengths::arithmetic::Arithmetic;
+    use lengths::double::Double;
+    use lengths::double::DoubleLengths;
+    use lengths::whole::WholeNumbers;
+    use search::answer::Answer;
+    use search::evidence::Evidence;
+    use search::search;
+    use std::test::*;
+
+    // The evidence as a tuple: u, v, x, y, r.
+    fn numbers(e: Evidence) -> (u64, u64, u64, u64, u64) {
+        (e.u, e.v, e.x, e.y, e.r)
+    }
+
+    fn close<A: Arithmetic>(threshold: u64, points: u64) -> Result<(u64, u64), Fail> {
+        match search::<A>(45, 17, 10, threshold, points) {
+            Ok(Answer::Close { index, value, .. }) => Ok((index, value)),
+            Ok(Answer::Clear { .. }) => Err(Fail::new("none is close")),
+            Err(_) => Err(Fail::new("refused")),
+        }
+    }
+
+    fn clear<A: Arithmetic>(points: u64) -> Result<(u64, u64, u64, u64, u64), Fail> {
+        match search::<A>(45, 17, 10, 3, points) {
+            Ok(Answer::Clear { evidence }) => Ok(numbers(evidence)),
+            Ok(Answer::Close { .. }) => Err(Fail::new("one is close")),
+            Err(_) => Err(Fail::new("refused")),
+        }
+    }
+
+    fn refusal(modulus: u64, slope: u64, threshold: u64, points: u64) -> u32 {
+        match search::<u64>(modulus, slope, 0, threshold, points) {
+            Ok(_) => 0,
+            Err(refusal) => refusal.number(),
+        }
+    }
+
+    fn sample_figures_in<A: Arithmetic>() -> Result<(), Fail> {
+        check(close::<A>(5, 5)? == (3, 4))?;
+        check(close::<A>(3, 21)? == (19, 2))?;
+        check(close::<A>(45, 1)? == (0, 10))?;
+        check(clear::<A>(5)? == (2, 3, 6, 11, 3))?;
+        check(clear::<A>(19)? == (13, 8, 1, 4, 11))
+    }
+
+    #[test]
+    fn sample_figures_in_both_arithmetics() -> Result<(), Fail> {
+        sample_figures_in::<u64>()?;
+        sample_figures_in::<Double>()
+    }
+
+    #[test]
+    fn each_refusal_in_its_order() -> Result<(), Fail> {
+        check_eq(refusal(1, 2, 3, 0), 1)?;
+        check_eq(refusal((1 << 40) + 1, 0, 0, 1), 1)?;
+        check_eq(refusal(2, 2, 3, 0), 4)?;
+        check_eq(refusal(2, 1, 3, 0), 3)?;
+        check_eq(refusal(2, 1, 2, 0), 2)?;
+        check_eq(refusal(2, 1, 2, (1 << 20) + 1), 2)?;
+        check_eq(refusal(2, 1, 2, 1 << 20), 0)
+    }
+}
