@@ -1,3 +1,9 @@
 mod Digits
 mod Fields
 mod Numbers
+mod Residues
+mod Judged
+mod Shifted
+mod Searched
+mod Passing
+mod Gathered

@@ -1,2 +1,6 @@
 pub mod Refusals
 pub mod Lines
+pub mod Limits
+pub mod Close
+pub mod Plans
+pub mod Books

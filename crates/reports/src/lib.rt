@@ -1,4 +1,10 @@
 //! From the bytes of one line of input to the bytes that are printed for it.
+pub mod book;
+pub mod hit;
+mod hits;
+pub mod limits;
 pub mod order;
+mod plan;
+pub mod points;
 pub mod reader;
 pub mod refusal;

@@ -1,0 +1,33 @@
+ghost use Rattle.reports.specs.Limits.{judged};
+ghost use mathlib.Core.Path.{_≡_};
+use crate::order::Mode;
+use crate::order::Order;
+use crate::order::Shape;
+use crate::refusal::LineRefusal;
+
+/// Refuses an order by the first limit that its numbers pass.
+pub fn judge(order: Order) -> Result<(), LineRefusal>
+    ensures refuses_by_the_first_limit_passed { λ r. ⌜ r ≡ judged order ⌝ }
+{
+    if order.modulus < 2 || order.modulus > 1 << 40 {
+        return Err(LineRefusal::Modulus);
+    }
+    if order.count < 1 || order.count > 1 << 20 {
+        return Err(LineRefusal::Count);
+    }
+    if matches!(order.mode, Mode::Nearest) && order.modulus % 2 == 1 {
+        return Err(LineRefusal::OddModulus);
+    }
+    // The threshold is twice the half width and 1 more.
+    if order.half_width > (order.modulus - 1) / 2 {
+        return Err(LineRefusal::Threshold);
+    }
+    let below = match order.shape {
+        Shape::Line { slope, offset } => slope < order.modulus && offset < order.modulus,
+    };
+    if below {
+        Ok(())
+    } else {
+        Err(LineRefusal::Coefficient)
+    }
+}
