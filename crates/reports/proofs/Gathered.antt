@@ -1,8 +1,8 @@
 -- The close points that were found so far, and all of them.
-use mathlib.Core.Path.{_≡_, refl, sym, ap, _∙_}
+use mathlib.Core.Path.{_≡_, refl, sym, ap, _∙_, subst}
 use mathlib.Core.Bool.{Bool, true, false, cond}
 use mathlib.Core.List.{List, [], _∷_, _++_, map}
-use Prim.Native.Nat.{ℕ, zero, suc, _+_, _≤_, _<_}
+use Prim.Native.Nat.{ℕ, zero, suc, _+_, _^_, _≤_, _<_}
 use native.Mathlib.Numerals.{add-one}
 use native.Mathlib.Omega.{arith}
 use lib.Dec.{ltb}
@@ -10,6 +10,8 @@ use lib.ListN.{length}
 use Rattle.std.specs.declared.result.Result.the-variants.{Ok, Err}
 use Rattle.std.proofs.shelf.Lists.{length-append, length-map, map-push}
 use Rattle.std.proofs.shelf.Tests.{lt-ltb, le-ltb, cond-true, cond-false}
+use Rattle.std.specs.shelf.Lists.{All}
+use Rattle.reports.proofs.Residues.{distance-below}
 use Rattle.reports.proofs.Passing.{one-more-passes, none-between, passing-grows}
 use Rattle.reports.specs.Close.{passing, booked}
 use Rattle.reports.specs.Plans.{planValue, isNear, hitAt, planHitsBelow, planHits, FarBetween, FirstClose}
@@ -43,3 +45,14 @@ pub all-found : (p : Plan) (i : ℕ) (hs : List Hit) → i ≤ p .count → FarB
 all-found p i hs h f e l =
     let w : hs ≡ planHits p = e ∙ ap (map (hitAt p)) (sym (none-found-between p i (p .count) h f)) in
     ap Ok w ∙ sym (cond-false (ltb 512 (length (planHits p))) (Err BookFull) (Ok (planHits p)) (le-ltb 512 (length (planHits p)) (omega (arith, ap length w))))
+
+-- every value is below the modulus
+any-values-fit : (p : Plan) (ks : List ℕ) → All (λ (h : Hit). h .value < 2 ^ 40) (map (hitAt p) ks)
+any-values-fit p [] = tt
+any-values-fit p (k ∷ ks) = (
+  omega (arith, distance-below (p .modulus) (p .slope) (p .offset) k (omega (arith, p .two)), p .carried),
+  any-values-fit p ks,
+)
+
+pub values-fit : (p : Plan) (i : ℕ) (hs : List Hit) → hs ≡ planHitsBelow p i → All (λ (h : Hit). h .value < 2 ^ 40) hs
+values-fit p i hs e = subst (λ (z : List Hit). All (λ (h : Hit). h .value < 2 ^ 40) z) (sym e) (any-values-fit p (passing (isNear p) i))

@@ -7,3 +7,4 @@ mod Shifted
 mod Searched
 mod Passing
 mod Gathered
+mod Texts

@@ -4,3 +4,5 @@ pub mod Limits
 pub mod Close
 pub mod Plans
 pub mod Books
+pub mod Listing
+pub mod Output

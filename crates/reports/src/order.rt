@@ -1,3 +1,7 @@
+ghost use Prim.Native.Nat.{_+_, _*_, _^_, _<_, _≤_};
+ghost use Rattle.reports.specs.Limits.{thresholdOf};
+ghost use mathlib.Core.Path.{_≡_};
+
 /// How the function whose curve is surveyed is rounded.
 #[derive(Clone, Copy)]
 pub enum Mode {
@@ -28,6 +32,16 @@ pub struct Order {
     pub count: u64,
     pub half_width: u64,
     pub shape: Shape,
+}
+
+impl Order {
+    /// A value below this is close.
+    pub(crate) fn threshold(self) -> u64
+        requires half_width_fits { ⌜ self .«half_width» < 2 ^ 40 ⌝ }
+        ensures is_the_threshold { λ r. ⌜ r ≡ thresholdOf self ⌝ }
+    {
+        2 * self.half_width + 1
+    }
 }
 
 /// What is read of a line.

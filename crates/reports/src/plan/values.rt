@@ -43,7 +43,7 @@ impl Plan {
         Plan {
             modulus: order.modulus,
             count: order.count,
-            threshold: 2 * order.half_width + 1,
+            threshold: order.threshold(),
             slope,
             offset: (offset + shift(order)) % order.modulus,
         }

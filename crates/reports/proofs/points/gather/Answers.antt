@@ -11,7 +11,7 @@ use Rattle.reports.specs.Books.{held}
 use Rattle.reports.specs.Plans.{planHitsBelow}
 use Rattle.reports.specs.declared.hit.Hit.{Hit}
 use mathlib.Core.List.{List}
-use Rattle.reports.proofs.Gathered.{next-found, too-many-found, all-found}
+use Rattle.reports.proofs.Gathered.{next-found, too-many-found, all-found, values-fit}
 use Rattle.reports.proofs.points.gather.Needs as need
 
 pub loop-hit-again : need.loop-hit-again
@@ -31,7 +31,10 @@ returns-in-Break-push c =
     let q = err-from-errBy (c .from-residual .result) (c .from-residual .ensures .1) in
     let e = c .in-Break-push .ensures tt .enters-the-point-or-is-full in
     let t = too-many-found (c .args .plan .now) (c .loop-hit .from) (c .in-Some .hit) (held (c .loop-hit .book)) (c .in-Some .ensures tt .is-the-first-close-point) (c .loop-hit .inv .1) (e .1) in
-    record { holds-the-close-points = rw (q .1, q .2) (ap Err (e .0) ∙ sym t) }
+    record {
+      holds-the-close-points = rw (q .1, q .2) (ap Err (e .0) ∙ sym t);
+      values-fit = rw (q .1) tt;
+    }
 
 pub returns : need.returns
 returns c =
@@ -40,4 +43,5 @@ returns c =
       holds-the-close-points =
           all-found (c .args .plan .now) (c .loop-hit .from) (held b) (c .loop-hit .inv .0) (c .in-rest .ensures tt .is-the-first-close-point) (c .loop-hit .inv .1)
           (omega (arith, length-take-le (b .used) (b .places) (omega (arith, b .few, b .whole)), b .few));
+      values-fit = values-fit (c .args .plan .now) (c .loop-hit .from) (held b) (c .loop-hit .inv .1);
     }
