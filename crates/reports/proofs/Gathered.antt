@@ -31,6 +31,12 @@ next-found p i h f =
     ∙ map-push (hitAt p) (passing (isNear p) i) (h .index)
     ∙ ap (λ (v : ℕ). planHitsBelow p i ++ record { index = h .index; value = v } ∷ []) (sym (f .value))
 
+-- before is what was entered up to i, and after has the point too
+pub one-more-entered : (p : Plan) (i n : ℕ) (h : Hit) (before after : List Hit) → FirstClose p i h → n ≡ h .index →
+    after ≡ before ++ h ∷ [] → before ≡ planHitsBelow p i → after ≡ planHitsBelow p (n + 1)
+one-more-entered p i n h before after f e a b =
+    a ∙ ap (λ (z : List Hit). z ++ h ∷ []) b ∙ sym (next-found p i h f) ∙ ap (λ (k : ℕ). planHitsBelow p (k + 1)) (sym e)
+
 -- 512 close points below i and one more
 pub too-many-found : (p : Plan) (i : ℕ) (h : Hit) (hs : List Hit) → FirstClose p i h → hs ≡ planHitsBelow p i → length hs ≡ 512 → booked (planHits p) ≡ Err BookFull
 too-many-found p i h hs f e l =

@@ -8,3 +8,4 @@ mod Searched
 mod Passing
 mod Gathered
 mod Texts
+mod Telling

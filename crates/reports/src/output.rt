@@ -1,6 +1,9 @@
+ghost use Prim.Native.Nat.{ℕ};
 ghost use Rattle.reports.specs.Output.{output};
 ghost use Rattle.std.specs.Of.String.{string-bytes};
 ghost use Rattle.std.specs.Vec.{made};
+ghost use lib.ListN.{take};
+ghost use mathlib.Core.List.{List};
 ghost use mathlib.Core.Path.{_≡_};
 use crate::listing::listing;
 use crate::listing::not_read_yet_line;
@@ -23,4 +26,11 @@ pub fn line_output(heap: Global, number: u32, line: &[u8]) -> Result<String, All
         Ok(Request::NotReadYet(_)) => not_read_yet_line(heap, number),
         Err(refusal) => refused_line(heap, number, refusal),
     }
+}
+
+/// How many bytes of a line tell all that is printed for it, so that no more need be kept.
+pub fn telling_bytes() -> usize
+    ensures tell_what_is_printed { λ r. ⌜ ((n : ℕ) (s : List ℕ) → output n (take r s) ≡ output n s) ⌝ }
+{
+    1025
 }

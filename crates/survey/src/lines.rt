@@ -1,4 +1,4 @@
-//! The lines of an input, of which no more is kept than tells that a line is too long.
+//! The lines of an input, of which only the first bytes are kept.
 ghost use Prim.Native.Nat.{ℕ, _-_, _<_, _≤_};
 ghost use Rattle.std.specs.Of.Vec.{vec-items, vec-len};
 ghost use Rattle.std.specs.Results.{isOk};
@@ -11,9 +11,6 @@ use std::io;
 use std::io::BufRead;
 use std::io::BufReader;
 use std::io::Stdin;
-
-/// One byte more than a line may have.
-const KEPT: usize = 1025;
 
 /// The place of the first line end, or the number of bytes where there is none.
 fn line_end(bytes: &[u8]) -> usize
@@ -29,16 +26,20 @@ fn line_end(bytes: &[u8]) -> usize
     bytes.len()
 }
 
-/// Takes up the part of a line that may still be kept.
-fn keep(line: &mut Vec<u8>, part: &[u8]) -> Result<(), AllocError>
-    ensures takes_up_what_has_room { λ r. ⌜ (isOk r ≡ true → vec-items (now (line .exit)) ≡ vec-items (now (line .entry)) ++ take (1025 - vec-len (now (line .entry))) (now (part .entry))) ⌝ }
+/// Takes up as much of the part of a line as it may still keep of `most` bytes.
+fn keep(line: &mut Vec<u8>, part: &[u8], most: usize) -> Result<(), AllocError>
+    ensures takes_up_what_has_room { λ r. ⌜ (isOk r ≡ true → vec-items (now (line .exit)) ≡ vec-items (now (line .entry)) ++ take (most - vec-len (now (line .entry))) (now (part .entry))) ⌝ }
 {
-    let room = KEPT.saturating_sub(line.len());
+    let room = most.saturating_sub(line.len());
     line.extend_from_slice(&part[0..room.min(part.len())])
 }
 
-/// Reads the next line without its end, and answers whether there was one.
-pub(crate) fn next_line(input: &mut BufReader<Stdin>, line: &mut Vec<u8>) -> io::Result<bool> {
+/// Reads the next line without its end, keeps up to `most` bytes of it, and answers whether there was one.
+pub(crate) fn next_line(
+    input: &mut BufReader<Stdin>,
+    line: &mut Vec<u8>,
+    most: usize,
+) -> io::Result<bool> {
     line.clear();
     let mut begun = false;
     for _ in 0..u64::MAX {
@@ -49,7 +50,7 @@ pub(crate) fn next_line(input: &mut BufReader<Stdin>, line: &mut Vec<u8>) -> io:
         begun = true;
         let end = line_end(part);
         let ended = end < part.len();
-        keep(line, &part[0..end])?;
+        keep(line, &part[0..end], most)?;
         input.consume(if ended { end + 1 } else { end });
         if ended {
             break;
