@@ -43,10 +43,10 @@ hitsOf o = map (λ k. record { index = k; value = valueOf o k }) (passing (close
 abbrev pub booked : List Hit → Result (List Hit) LineRefusal
 booked hs = cond (ltb 512 (length hs)) (Err BookFull) (Ok hs)
 
-abbrev pub foundOnce : Result (Unit {0}) LineRefusal → List Hit → Result (List Hit) LineRefusal
-foundOnce (Err e) hs = Err e
-foundOnce (Ok _) hs = booked hs
+abbrev pub foundWithin : Result (Unit {0}) LineRefusal → List Hit → Result (List Hit) LineRefusal
+foundWithin (Err e) hs = Err e
+foundWithin (Ok _) hs = booked hs
 
 -- the close points of an order within its limits, or why it is refused
 abbrev pub found : Order → Result (List Hit) LineRefusal
-found o = foundOnce (judged o) (hitsOf o)
+found o = foundWithin (judged o) (hitsOf o)

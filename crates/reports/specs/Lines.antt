@@ -64,11 +64,6 @@ written n (c ∷ cs) = cond (digit c) (written (n * 10 + (c - 48)) cs) None
 abbrev pub numberOf : List ℕ → Option ℕ
 numberOf f = cond (ltb 0 (length f) && ltb (length f) 14) (written 0 f) None
 
--- the fields that follow a first one: none where no comma ends it
-abbrev pub fieldsAfter : Option (List ℕ) → List (List ℕ)
-fieldsAfter None = []
-fieldsAfter (Some t) = fields t
-
 -- the numbers of some fields, where each one is a number
 abbrev pub withNumber : Option ℕ → Option (List ℕ) → Option (List ℕ)
 withNumber None ns = None
@@ -80,9 +75,9 @@ numbersOf [] = Some []
 numbersOf (f ∷ fs) = withNumber (numberOf f) (numbersOf fs)
 
 -- just n numbers, and no more
-abbrev pub justSo : ℕ → Option (List ℕ) → Option (List ℕ)
-justSo n None = None
-justSo n (Some ns) = cond (eqb (length ns) n) (Some ns) None
+abbrev pub exactly : ℕ → Option (List ℕ) → Option (List ℕ)
+exactly n None = None
+exactly n (Some ns) = cond (eqb (length ns) n) (Some ns) None
 
 -- a straight curve: the modulus, the count, the half width, the slope and the offset
 abbrev pub straightOrder : Mode → List ℕ → Order
@@ -95,23 +90,25 @@ straightOrder m ns =
       shape = Line (getD ns 3 0) (getD ns 4 0);
     }
 
-abbrev pub straightOf : Mode → Option (List ℕ) → Result Request LineRefusal
-straightOf m None = Err Field
-straightOf m (Some ns) = Ok (Curve (straightOrder m ns))
+-- five numbers, or a refusal
+abbrev pub straightWith : Mode → Option (List ℕ) → Result Request LineRefusal
+straightWith m None = Err Field
+straightWith m (Some ns) = Ok (Curve (straightOrder m ns))
 
-abbrev pub modedOf : Result Mode LineRefusal → List (List ℕ) → Result Request LineRefusal
-modedOf (Err e) fs = Err e
-modedOf (Ok m) fs = straightOf m (justSo 5 (numbersOf fs))
+-- a letter of the mode before them, or a refusal
+abbrev pub straightBy : Result Mode LineRefusal → List (List ℕ) → Result Request LineRefusal
+straightBy (Err e) fs = Err e
+straightBy (Ok m) fs = straightWith m (exactly 5 (numbersOf fs))
 
--- after the letter of its kind, a straight curve has the letter of its mode and five numbers
-abbrev pub kindedOf : Result Kind LineRefusal → List (List ℕ) → Result Request LineRefusal
-kindedOf (Err e) fs = Err e
-kindedOf (Ok Straight) fs = modedOf (modeOf (getD fs 0 [])) (drop 1 fs)
-kindedOf (Ok Bowed) fs = Ok (NotReadYet Bowed)
-kindedOf (Ok Listed) fs = Ok (NotReadYet Listed)
+-- the first field is the kind: a straight curve then has its mode and five numbers; the other kinds are not read yet
+abbrev pub askedBy : Result Kind LineRefusal → List (List ℕ) → Result Request LineRefusal
+askedBy (Err e) fs = Err e
+askedBy (Ok Straight) fs = straightBy (modeOf (getD fs 0 [])) (drop 1 fs)
+askedBy (Ok Bowed) fs = Ok (NotReadYet Bowed)
+askedBy (Ok Listed) fs = Ok (NotReadYet Listed)
 
 -- what a line asks for, or why it is refused
 abbrev pub reading : List ℕ → Result Request LineRefusal
 reading line =
     let fs = fields line in
-    cond (ltb 1024 (length line)) (Err Letter) (kindedOf (kindOf (getD fs 0 [])) (drop 1 fs))
+    cond (ltb 1024 (length line)) (Err Letter) (askedBy (kindOf (getD fs 0 [])) (drop 1 fs))

@@ -6,10 +6,13 @@ mod entries;
 
 use crate::hit::Hit;
 
-/// The close points of one curve, in the first `used` of its 512 places.
+/// How many close points a book has places for.
+const PLACES: usize = 512;
+
+/// The close points of one curve, in the first `used` of its places.
 #[derive(Drop)]
 pub struct Book {
-    places: [Hit; 512],
+    places: [Hit; PLACES],
     used: usize,
     ghost whole: { length places ≡ 512 },
     ghost few: { used ≤ 512 },

@@ -10,4 +10,5 @@ mod plan;
 pub mod points;
 pub mod reader;
 pub mod refusal;
+pub mod samples;
 mod summary;

@@ -5,14 +5,18 @@ use crate::order::Order;
 use crate::order::Shape;
 use crate::refusal::LineRefusal;
 
+const LARGEST_MODULUS: u64 = 1 << 40;
+
+const LARGEST_COUNT: u64 = 1 << 20;
+
 /// Refuses an order by the first limit that its numbers pass.
 pub fn judge(order: Order) -> Result<(), LineRefusal>
     ensures refuses_by_the_first_limit_passed { λ r. ⌜ r ≡ judged order ⌝ }
 {
-    if order.modulus < 2 || order.modulus > 1 << 40 {
+    if order.modulus < 2 || order.modulus > LARGEST_MODULUS {
         return Err(LineRefusal::Modulus);
     }
-    if order.count < 1 || order.count > 1 << 20 {
+    if order.count < 1 || order.count > LARGEST_COUNT {
         return Err(LineRefusal::Count);
     }
     if matches!(order.mode, Mode::Nearest) && order.modulus % 2 == 1 {

@@ -1,5 +1,6 @@
 ghost use Prim.Native.Nat.{_+_, _-_, _*_, _^_, _<_, _≤_};
-ghost use Rattle.reports.specs.Lines.{letter, kindOf, modeOf, numberOf, fields, fieldsAfter, numbersOf, justSo, straightOrder, modedOf, reading};
+ghost use Rattle.reports.specs.Lines.{letter, kindOf, modeOf, numberOf, fields, numbersOf, exactly, straightOrder, straightBy, reading};
+ghost use Rattle.reports.specs.Rest.{fieldsAfter};
 ghost use Rattle.std.specs.Options.{Cases, mapped};
 ghost use lib.ListN.{getD, drop};
 ghost use mathlib.Core.List.{[], _∷_};
@@ -10,6 +11,9 @@ use crate::order::Order;
 use crate::order::Request;
 use crate::order::Shape;
 use crate::refusal::LineRefusal;
+
+/// The most bytes that a line may have.
+const LONGEST_LINE: usize = 1024;
 
 /// The byte of a field that holds just one.
 fn lone_letter(field: &[u8]) -> Option<char>
@@ -75,7 +79,7 @@ fn cut(text: &[u8]) -> (&[u8], Option<&[u8]>)
 
 /// The numbers of the fields that are left, where there are just five.
 fn five_numbers(rest: Option<&[u8]>) -> Option<[u64; 5]>
-    ensures are_the_numbers_left { λ r. ⌜ r ≡ justSo 5 (numbersOf (fieldsAfter (mapped now (rest .entry)))) ⌝ }
+    ensures are_the_numbers_left { λ r. ⌜ r ≡ exactly 5 (numbersOf (fieldsAfter (mapped now (rest .entry)))) ⌝ }
 {
     let mut rest = rest;
     let mut numbers = [0; 5];
@@ -111,7 +115,7 @@ fn straight_order(mode: Mode, numbers: [u64; 5]) -> Order
 
 /// A straight curve, of which the line holds the fields after the letter of its kind.
 fn read_straight(rest: Option<&[u8]>) -> Result<Request, LineRefusal>
-    ensures is_the_straight_curve { λ r. ⌜ r ≡ modedOf (modeOf (getD (fieldsAfter (mapped now (rest .entry))) 0 [])) (drop 1 (fieldsAfter (mapped now (rest .entry)))) ⌝ }
+    ensures is_the_straight_curve { λ r. ⌜ r ≡ straightBy (modeOf (getD (fieldsAfter (mapped now (rest .entry))) 0 [])) (drop 1 (fieldsAfter (mapped now (rest .entry)))) ⌝ }
 {
     let Some(text) = rest else {
         return Err(LineRefusal::Letter);
@@ -128,7 +132,7 @@ fn read_straight(rest: Option<&[u8]>) -> Result<Request, LineRefusal>
 pub fn read(line: &[u8]) -> Result<Request, LineRefusal>
     ensures is_what_the_line_says { λ r. ⌜ r ≡ reading (now (line .entry)) ⌝ }
 {
-    if line.len() > 1024 {
+    if line.len() > LONGEST_LINE {
         return Err(LineRefusal::Letter);
     }
     let (field, rest) = cut(line);

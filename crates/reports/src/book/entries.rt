@@ -6,6 +6,7 @@ ghost use lib.ListN.{length};
 ghost use mathlib.Core.List.{[], _∷_, _++_};
 ghost use mathlib.Core.Path.{_≡_};
 use super::Book;
+use super::PLACES;
 use crate::hit::Hit;
 use crate::refusal::LineRefusal;
 
@@ -14,7 +15,7 @@ impl Book {
         ensures holds_nothing { λ r. ⌜ held r ≡ [] ⌝ }
     {
         Book {
-            places: [Hit { index: 0, value: 0 }; 512],
+            places: [Hit { index: 0, value: 0 }; PLACES],
             used: 0,
         }
     }
@@ -23,7 +24,7 @@ impl Book {
     pub(crate) fn push(&mut self, hit: Hit) -> Result<(), LineRefusal>
         ensures enters_the_point_or_is_full { λ r. ⌜ Cases r (λ _. held (now (self .exit)) ≡ held (now (self .entry)) ++ hit ∷ []) (λ e. (e ≡ BookFull) × (length (held (now (self .entry))) ≡ 512)) ⌝ }
     {
-        if self.used == 512 {
+        if self.used == PLACES {
             return Err(LineRefusal::BookFull);
         }
         self.places[self.used] = hit;

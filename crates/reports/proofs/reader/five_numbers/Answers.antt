@@ -8,7 +8,8 @@ use borrow.Author.Needs.{needs}
 use Rattle.std.specs.Options.{mapped}
 use Rattle.std.specs.declared.option.Option.{Option}
 use Rattle.std.proofs.shelf.Lists.{length-set, take-all}
-use Rattle.reports.specs.Lines.{fieldsAfter, numbersOf}
+use Rattle.reports.specs.Lines.{numbersOf}
+use Rattle.reports.specs.Rest.{fieldsAfter}
 use Rattle.reports.proofs.Numbers.{before, one-number-on, too-many, just-five}
 use Rattle.reports.proofs.reader.five_numbers.Needs as need
 

@@ -2,7 +2,8 @@ use mathlib.Core.Path.{_≡_}
 use lib.ListN.{length, take}
 use denote.Ref.{now}
 use Rattle.std.specs.Options.{mapped}
-use Rattle.reports.specs.Lines.{fieldsAfter, numbersOf}
+use Rattle.reports.specs.Lines.{numbersOf}
+use Rattle.reports.specs.Rest.{fieldsAfter}
 use Rattle.reports.proofs.Numbers.{before}
 use Rattle.reports.proofs.reader.five_numbers.Given as given
 

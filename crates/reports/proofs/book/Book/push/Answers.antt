@@ -4,10 +4,10 @@ use lib.ListN.{length}
 use Rattle.std.proofs.shelf.Lists.{length-take-le, take-more-set}
 use Rattle.reports.proofs.book.Book.push.Needs as need
 
-pub returns-then-self-eq512 : need.returns-then-self-eq512
-returns-then-self-eq512 c =
+pub returns-then-self-eq-PLACES : need.returns-then-self-eq-PLACES
+returns-then-self-eq-PLACES c =
     let b = c .args .self .now in
-    record { enters-the-point-or-is-full = (refl, length-take-le (b .used) (b .places) (omega arith) ∙ c .if-self-eq512 .taken) }
+    record { enters-the-point-or-is-full = (refl, length-take-le (b .used) (b .places) (omega arith) ∙ c .if-self-eq-PLACES .taken) }
 
 pub returns : need.returns
 returns c =
