@@ -1,5 +1,5 @@
 -- Residues: numbers that differ by a multiple of the modulus, and the values of a straight curve.
-use mathlib.Core.Path.{_≡_, refl, sym, ap, _∙_}
+use mathlib.Core.Path.{_≡_, sym, ap, _∙_}
 use Prim.Native.Nat.{ℕ, zero, suc, _+_, _-_, _*_, _/_, _%_, _≤_, _<_}
 use native.Mathlib.Nat.{div-add-mod', mod-lt, mod-eq-of-lt, add-mul-mod-self-right}
 use native.Mathlib.Omega.{arith}

@@ -1,14 +1,14 @@
 -- What an answer of the search says of the distances.
 use mathlib.Core.Path.{_≡_, refl, sym, ap, _∙_, subst}
 use mathlib.Core.Bool.{Bool, true, false, cond}
-use mathlib.Core.Logic.{_⊎_, ⊎-elim}
-use Prim.Native.Nat.{ℕ, zero, suc, _+_, _-_, _≤_, _<_}
+use mathlib.Core.Logic.{⊎-elim}
+use Prim.Native.Nat.{ℕ, zero, suc, _≤_, _<_}
 use native.Mathlib.Omega.{arith}
 use lib.Dec.{ltb}
 use Rattle.std.specs.declared.option.Option.{Option}
 use Rattle.std.proofs.shelf.Tests.{cases-lt, cases-bool, cases-order, ltb-true, ltb-false, lt-ltb, le-ltb, true≢false, cond-true, cond-false}
 use Rattle.search.specs.Points.{distance, least}
-use Rattle.search.specs.Search.{answer, closeAt, evidence}
+use Rattle.search.specs.Search.{answer, closeAt}
 use Rattle.search.specs.declared.search.Evidence.{Evidence}
 use Rattle.search.specs.declared.search.Answer.{Answer}
 use Rattle.search.specs.declared.search.Answer.the-variants.{Close, Clear}

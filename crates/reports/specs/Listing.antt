@@ -1,6 +1,6 @@
 -- The text that is printed for a curve.
 use mathlib.Core.Bool.{cond}
-use mathlib.Core.List.{List, [], _∷_, _++_}
+use mathlib.Core.List.{List, _++_}
 use Prim.Native.Nat.{ℕ, _/_, min}
 use lib.Chars.{codes}
 use lib.Dec.{eqb}

@@ -8,7 +8,6 @@ use Rattle.reports.specs.Limits.{thresholdOf}
 use Rattle.reports.specs.Lines.{reading}
 use Rattle.reports.specs.Listing.{listingOf, refusedLine, notReadYetLine}
 use Rattle.reports.specs.declared.hit.Hit.{Hit}
-use Rattle.reports.specs.declared.order.Order.{Order}
 use Rattle.reports.specs.declared.order.Request.{Request}
 use Rattle.reports.specs.declared.order.Request.the-variants.{Curve, NotReadYet}
 use Rattle.reports.specs.declared.refusal.LineRefusal.{LineRefusal}

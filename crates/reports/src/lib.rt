@@ -2,6 +2,7 @@
 pub mod book;
 pub mod hit;
 mod hits;
+mod kept;
 pub mod limits;
 mod listing;
 pub mod order;

@@ -1,4 +1,4 @@
-ghost use Prim.Native.Nat.{_+_, _*_, _/_, _^_, _<_, _≤_};
+ghost use Prim.Native.Nat.{_/_, _^_, _<_, _≤_};
 ghost use Rattle.reports.specs.Listing.{offsetOf, sizeOf, letterOf, closestOf, totalOf, headLine, pointText, pointLine, sumLine, listingOf, refusedLine, notReadYetLine};
 ghost use Rattle.std.specs.Joined.{joined};
 ghost use Rattle.std.specs.Of.String.{string-bytes};

@@ -1,4 +1,4 @@
-ghost use Prim.Native.Nat.{_+_, _*_, _^_, _<_, _≤_};
+ghost use Prim.Native.Nat.{_+_, _*_, _^_, _<_};
 ghost use Rattle.reports.specs.Limits.{thresholdOf};
 ghost use mathlib.Core.Path.{_≡_};
 

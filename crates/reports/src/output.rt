@@ -5,6 +5,7 @@ ghost use Rattle.std.specs.Vec.{made};
 ghost use lib.ListN.{take};
 ghost use mathlib.Core.List.{List};
 ghost use mathlib.Core.Path.{_≡_};
+use crate::kept::enough_bytes;
 use crate::listing::listing;
 use crate::listing::not_read_yet_line;
 use crate::listing::refused_line;
@@ -30,7 +31,8 @@ pub fn line_output(heap: Global, number: u32, line: &[u8]) -> Result<String, All
 
 /// How many bytes of a line tell all that is printed for it, so that no more need be kept.
 pub fn telling_bytes() -> usize
+    ensures is_one_more_than_a_line_may_have { λ r. ⌜ r ≡ 1025 ⌝ }
     ensures tell_what_is_printed { λ r. ⌜ ((n : ℕ) (s : List ℕ) → output n (take r s) ≡ output n s) ⌝ }
 {
-    1025
+    enough_bytes()
 }

@@ -1,4 +1,4 @@
-ghost use Prim.Native.Nat.{_+_, _-_, _*_, _^_, _<_, _≤_};
+ghost use Prim.Native.Nat.{_+_, _-_, _*_, _^_, _<_};
 ghost use Rattle.reports.specs.Lines.{letter, kindOf, modeOf, numberOf, fields, numbersOf, exactly, straightOrder, straightBy, reading};
 ghost use Rattle.reports.specs.Rest.{fieldsAfter};
 ghost use Rattle.std.specs.Options.{Cases, mapped};

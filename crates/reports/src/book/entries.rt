@@ -1,4 +1,3 @@
-ghost use Prim.Native.Nat.{_≤_};
 ghost use Rattle.reports.specs.Books.{held};
 ghost use Rattle.reports.specs.declared.refusal.LineRefusal.the-variants.{BookFull};
 ghost use Rattle.std.specs.Results.{Cases};

@@ -1,9 +1,7 @@
 use mathlib.Core.Path.{_≡_, sym, ap, subst, _∙_}
-use Prim.Native.Nat.{ℕ, _+_, _-_, _≤_, _<_}
+use Prim.Native.Nat.{ℕ, _+_, _-_, _≤_}
 use native.Mathlib.Omega.{arith}
-use lib.Dec.{lit<}
 use Rattle.search.specs.Points.{distance}
-use Rattle.search.specs.Search.{answer}
 use Rattle.reports.proofs.Residues.{distance-from}
 use Rattle.reports.proofs.Searched.{First, close-answer, clear-answer}
 use Rattle.reports.specs.Plans.{planValue}

@@ -1,6 +1,5 @@
-use mathlib.Core.Path.{_≡_, refl, _∙_}
+use mathlib.Core.Path.{refl, _∙_}
 use native.Mathlib.Omega.{arith}
-use lib.ListN.{length}
 use Rattle.std.proofs.shelf.Lists.{length-take-le, take-more-set}
 use Rattle.reports.proofs.book.Book.push.Needs as need
 
