@@ -1,0 +1,10 @@
+mod Digits
+mod Fields
+mod Numbers
+mod Residues
+mod Judged
+mod Shifted
+mod Passing
+mod Gathered
+mod Texts
+mod Telling

@@ -1,0 +1,7 @@
+use borrow.Author.Needs.{needs}
+use Rattle.reports.specs.Listing.{sumLine}
+use Rattle.reports.proofs.listing.no_sum_line.Needs as need
+
+pub returns : need.returns
+unfolding sumLine
+returns c = search needs

@@ -1,0 +1,10 @@
+pub mod Refusals
+pub mod Lines
+pub mod Rest
+pub mod Limits
+pub mod Close
+pub mod Plans
+pub mod Books
+pub mod Listing
+pub mod Output
+pub mod Samples

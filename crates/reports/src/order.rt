@@ -1,0 +1,53 @@
+ghost use Prim.Native.Nat.{_+_, _*_, _^_, _<_};
+ghost use Rattle.reports.specs.Limits.{thresholdOf};
+ghost use mathlib.Core.Path.{_≡_};
+
+/// How the function whose curve is surveyed is rounded.
+#[derive(Clone, Copy)]
+pub enum Mode {
+    Directed,
+    Nearest,
+}
+
+/// What a line's first letter says of its curve.
+#[derive(Clone, Copy)]
+pub enum Kind {
+    Straight,
+    Bowed,
+    Listed,
+}
+
+/// The numbers that give a curve its values.
+#[derive(Clone, Copy)]
+pub enum Shape {
+    /// (offset − k·slope) mod modulus at each index k.
+    Line { slope: u64, offset: u64 },
+}
+
+/// What a line asks for, as it stands there.
+#[derive(Clone, Copy)]
+pub struct Order {
+    pub mode: Mode,
+    pub modulus: u64,
+    pub count: u64,
+    pub half_width: u64,
+    pub shape: Shape,
+}
+
+impl Order {
+    /// A value below this is close.
+    pub(crate) fn threshold(self) -> u64
+        requires half_width_fits { ⌜ self .«half_width» < 2 ^ 40 ⌝ }
+        ensures is_the_threshold { λ r. ⌜ r ≡ thresholdOf self ⌝ }
+    {
+        2 * self.half_width + 1
+    }
+}
+
+/// What is read of a line.
+#[derive(Clone, Copy)]
+pub enum Request {
+    Curve(Order),
+    /// The kind is known, and its lines are not read yet.
+    NotReadYet(Kind),
+}

@@ -1,0 +1,140 @@
+-- What an answer of the search says of the distances.
+use mathlib.Core.Path.{_≡_, refl, sym, ap, _∙_, subst}
+use mathlib.Core.Bool.{Bool, true, false, cond, _&&_}
+use mathlib.Core.Logic.{⊎-elim}
+use Prim.Native.Nat.{ℕ, zero, suc, _^_, _≤_, _<_}
+use native.Mathlib.Omega.{arith}
+use lib.Dec.{leb, ltb}
+use Rattle.std.specs.declared.option.Option.{Option}
+use Rattle.std.specs.declared.option.Option.the-variants.{None}
+use Rattle.std.specs.declared.result.Result.the-variants.{Ok}
+use Rattle.std.proofs.shelf.Tests.{cases-lt, cases-bool, cases-order, ltb-true, ltb-false, lt-ltb, le-ltb, le-leb, and-from, true≢false, cond-true, cond-false}
+use Rattle.search.specs.Points.{distance, least}
+use Rattle.search.specs.Answers.{answer, answer-or, closeAt, searched}
+use Rattle.search.specs.Refusals.{refused}
+use Rattle.search.specs.declared.evidence.Evidence.{Evidence}
+use Rattle.search.specs.declared.answer.Answer.{Answer}
+use Rattle.search.specs.declared.answer.Answer.the-variants.{Close, Clear}
+
+-- below the least index nothing passes
+pub least-below : (p : ℕ → Bool) (n j : ℕ) → j < least p n → p j ≡ false
+least-below p zero j h = absurd (omega arith)
+least-below p (suc n) j h =
+    ⊎-elim
+    (λ (l : least p n < n). least-below p n j (subst (λ k. j < k) (cond-true (ltb (least p n) n) _ _ (lt-ltb _ _ l)) h))
+    (λ (l : n ≤ least p n).
+    let s : j < cond (p n) n (suc n) = subst (λ k. j < k) (cond-false (ltb (least p n) n) _ _ (le-ltb _ _ l)) h in
+    ⊎-elim
+    (λ (t : p n ≡ true). let u : j < n = subst (λ k. j < k) (cond-true (p n) n (suc n) t) s in least-below p n j (omega arith))
+    (λ (t : p n ≡ false).
+    let u : j < suc n = subst (λ k. j < k) (cond-false (p n) n (suc n) t) s in
+    ⊎-elim
+    (λ (e : j ≡ n). ap p e ∙ t)
+    (λ o. least-below p n j (⊎-elim (λ (z : j < n). omega arith) (λ (z : n < j). absurd (omega arith)) o))
+    (cases-order j n))
+    (cases-bool (p n)))
+    (cases-lt (least p n) n)
+
+-- where it is below n, the least index passes
+pub least-passes : (p : ℕ → Bool) (n : ℕ) → least p n < n → p (least p n) ≡ true
+least-passes p zero h = absurd (omega arith)
+least-passes p (suc n) h =
+    ⊎-elim
+    (λ (l : least p n < n).
+    let e : least p (suc n) ≡ least p n = cond-true (ltb (least p n) n) _ _ (lt-ltb _ _ l) in
+    ap p e ∙ least-passes p n l)
+    (λ (l : n ≤ least p n).
+    let e : least p (suc n) ≡ cond (p n) n (suc n) = cond-false (ltb (least p n) n) _ _ (le-ltb _ _ l) in
+    ⊎-elim
+    (λ (t : p n ≡ true). let f : least p (suc n) ≡ n = e ∙ cond-true (p n) n (suc n) t in ap p f ∙ t)
+    (λ (t : p n ≡ false). let f : least p (suc n) ≡ suc n = e ∙ cond-false (p n) n (suc n) t in absurd (omega arith))
+    (cases-bool (p n)))
+    (cases-lt (least p n) n)
+
+abbrev isClose : Answer → Bool
+isClose (Close k v e) = true
+isClose (Clear e) = false
+
+abbrev indexIn : Answer → ℕ
+indexIn (Close k v e) = k
+indexIn (Clear e) = 0
+
+abbrev valueIn : Answer → ℕ
+valueIn (Close k v e) = v
+valueIn (Clear e) = 0
+
+index-at : (M a b k : ℕ) → indexIn (closeAt M a b k) ≡ k
+index-at M a b zero = refl
+index-at M a b (suc k) = refl
+
+value-at : (M a b k : ℕ) → valueIn (closeAt M a b k) ≡ distance M a b k
+value-at M a b zero = refl
+value-at M a b (suc k) = refl
+
+close-at : (M a b k : ℕ) → isClose (closeAt M a b k) ≡ true
+close-at M a b zero = refl
+close-at M a b (suc k) = refl
+
+abbrev near : (M a b D : ℕ) → ℕ → Bool
+near M a b D k = ltb (distance M a b k) D
+
+-- k is the first close index below n, and v its value
+pub record First (M a b D n k v : ℕ) : Type 0 where
+  pub below : k < n
+  pub value : v ≡ distance M a b k
+  pub close : v < D
+  pub far : (j : ℕ) → j < k → D ≤ distance M a b j
+
+first-at : (M a b D n m k v : ℕ) (e : Option Evidence) → m ≡ least (near M a b D) n → m < n → Close k v e ≡ closeAt M a b m → First M a b D n k v
+first-at M a b D n m k v e l h c =
+    let i : k ≡ m = ap indexIn c ∙ index-at M a b m in
+    let w : v ≡ distance M a b k = ap valueIn c ∙ value-at M a b m ∙ ap (distance M a b) (sym i) in
+    let t : near M a b D m ≡ true = subst (λ z. near M a b D z ≡ true) (sym l) (least-passes (near M a b D) n (subst (λ z. z < n) l h)) in
+    let d : distance M a b k < D = subst (λ z. distance M a b z < D) (sym i) (ltb-true _ _ t) in
+    record {
+      below = omega arith;
+      value = w;
+      close = omega arith;
+      far = λ j z. ltb-false _ _ (least-below (near M a b D) n j (subst (λ q. j < q) (i ∙ l) z));
+    }
+
+pub close-answer : (M a b D n k v : ℕ) (e : Option Evidence) → Close k v e ≡ answer M a b D n → First M a b D n k v
+close-answer M a b D n k v e c =
+    let m = least (near M a b D) n in
+    ⊎-elim
+    (λ (l : m < n). first-at M a b D n m k v e refl l (c ∙ cond-true (ltb m n) _ _ (lt-ltb m n l)))
+    (λ (l : n ≤ m). absurd (true≢false (ap isClose (c ∙ cond-false (ltb m n) _ _ (le-ltb m n l)))))
+    (cases-lt m n)
+
+pub clear-answer : (M a b D n : ℕ) (e : Evidence) → Clear e ≡ answer M a b D n → (j : ℕ) → j < n → D ≤ distance M a b j
+clear-answer M a b D n e c j h =
+    let m = least (near M a b D) n in
+    ⊎-elim
+    (λ (l : m < n). absurd (true≢false (sym (close-at M a b m) ∙ sym (ap isClose (c ∙ cond-true (ltb m n) _ _ (lt-ltb m n l))))))
+    (λ (l : n ≤ m). ltb-false _ _ (least-below (near M a b D) n j (omega arith)))
+    (cases-lt m n)
+
+-- numbers within their limits are not refused
+pub not-refused : (M a b D n : ℕ) → 2 ≤ M → M ≤ 2 ^ 40 → a < M → b < M → D ≤ M → 1 ≤ n → n ≤ 2 ^ 20 → refused M a b D n ≡ None
+not-refused M a b D n h1 h2 h3 h4 h5 h6 h7 =
+    let p : leb 2 M && leb M (2 ^ 40) ≡ true = and-from (leb 2 M) (leb M (2 ^ 40)) (le-leb 2 M h1) (le-leb M (2 ^ 40) h2) in
+    let q : ltb a M && ltb b M ≡ true = and-from (ltb a M) (ltb b M) (lt-ltb a M h3) (lt-ltb b M h4) in
+    let r = le-leb D M h5 in
+    let s : leb 1 n && leb n (2 ^ 20) ≡ true = and-from (leb 1 n) (leb n (2 ^ 20)) (le-leb 1 n h6) (le-leb n (2 ^ 20) h7) in
+    cond-true _ _ _ p ∙ cond-true _ _ _ q ∙ cond-true _ _ _ r ∙ cond-true _ _ _ s
+
+pub searched-within : (M a b D n : ℕ) → 2 ≤ M → M ≤ 2 ^ 40 → a < M → b < M → D ≤ M → 1 ≤ n → n ≤ 2 ^ 20 → searched M a b D n ≡ Ok (answer M a b D n)
+searched-within M a b D n h1 h2 h3 h4 h5 h6 h7 = ap (λ o. answer-or o (answer M a b D n)) (not-refused M a b D n h1 h2 h3 h4 h5 h6 h7)
+
+-- what an answer to numbers within their limits says
+pub close-searched : (M a b D n k v : ℕ) (e : Option Evidence) (r : Answer) → 2 ≤ M → M ≤ 2 ^ 40 → a < M → b < M → D ≤ M → 1 ≤ n → n ≤ 2 ^ 20 →
+    Ok r ≡ searched M a b D n → r ≡ Close k v e → First M a b D n k v
+close-searched M a b D n k v e r h1 h2 h3 h4 h5 h6 h7 c i =
+    let z = c ∙ searched-within M a b D n h1 h2 h3 h4 h5 h6 h7 in
+    let w : Close k v e ≡ answer M a b D n = cc in close-answer M a b D n k v e w
+
+pub clear-searched : (M a b D n : ℕ) (e : Evidence) (r : Answer) → 2 ≤ M → M ≤ 2 ^ 40 → a < M → b < M → D ≤ M → 1 ≤ n → n ≤ 2 ^ 20 →
+    Ok r ≡ searched M a b D n → r ≡ Clear e → (j : ℕ) → j < n → D ≤ distance M a b j
+clear-searched M a b D n e r h1 h2 h3 h4 h5 h6 h7 c i =
+    let z = c ∙ searched-within M a b D n h1 h2 h3 h4 h5 h6 h7 in
+    let w : Clear e ≡ answer M a b D n = cc in clear-answer M a b D n e w
