@@ -27,7 +27,7 @@ pub fn judge(order: Order) -> Result<(), LineRefusal>
         return Err(LineRefusal::Threshold);
     }
     let below = match order.shape {
-        Shape::Line { slope, offset } => slope < order.modulus && offset < order.modulus,
+        Shape::Straight { slope, offset } => slope < order.modulus && offset < order.modulus,
     };
     if below {
         Ok(())
