@@ -8,9 +8,9 @@ use Rattle.reports.proofs.Residues.{distance-shifted}
 use Rattle.reports.specs.Close.{unshifted, shiftOf, valueOf}
 use Rattle.reports.specs.declared.order.Order.{Order}
 use Rattle.reports.specs.declared.order.Shape.{Shape}
-use Rattle.reports.specs.declared.order.Shape.the-variants.{Line}
+use Rattle.reports.specs.declared.order.Shape.the-variants.{Straight}
 
-pub values-shifted : (o : Order) (a b t : ℕ) → 0 < o .modulus → o .shape ≡ Line a b → t ≡ shiftOf o → (k : ℕ) →
+pub values-shifted : (o : Order) (a b t : ℕ) → 0 < o .modulus → o .shape ≡ Straight a b → t ≡ shiftOf o → (k : ℕ) →
     distance (o .modulus) a ((b + t) % o .modulus) k ≡ valueOf o k
 values-shifted o a b t h e s k =
     distance-shifted (o .modulus) a b t k h

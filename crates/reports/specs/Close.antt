@@ -13,13 +13,13 @@ use Rattle.reports.specs.Limits.{toNearest, thresholdOf, judged}
 use Rattle.reports.specs.declared.hit.Hit.{Hit}
 use Rattle.reports.specs.declared.order.Order.{Order}
 use Rattle.reports.specs.declared.order.Shape.{Shape}
-use Rattle.reports.specs.declared.order.Shape.the-variants.{Line}
+use Rattle.reports.specs.declared.order.Shape.the-variants.{Straight}
 use Rattle.reports.specs.declared.refusal.LineRefusal.{LineRefusal}
 use Rattle.reports.specs.declared.refusal.LineRefusal.the-variants.{BookFull}
 
 -- a straight curve's value at index k: (b − k·a) mod M
 abbrev pub unshifted : ℕ → Shape → ℕ → ℕ
-unshifted M (Line a b) k = distance M a b k
+unshifted M (Straight a b) k = distance M a b k
 
 -- what every value gains: the half width, and half the modulus where rounding is to nearest
 abbrev pub shiftOf : Order → ℕ

@@ -1,4 +1,5 @@
 pub mod Refusals
+pub mod Orders
 pub mod Lines
 pub mod Rest
 pub mod Limits

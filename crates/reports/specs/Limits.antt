@@ -11,7 +11,7 @@ use Rattle.reports.specs.declared.order.Mode.{Mode}
 use Rattle.reports.specs.declared.order.Mode.the-variants.{Directed, Nearest}
 use Rattle.reports.specs.declared.order.Order.{Order}
 use Rattle.reports.specs.declared.order.Shape.{Shape}
-use Rattle.reports.specs.declared.order.Shape.the-variants.{Line}
+use Rattle.reports.specs.declared.order.Shape.the-variants.{Straight}
 use Rattle.reports.specs.declared.refusal.LineRefusal.{LineRefusal}
 use Rattle.reports.specs.declared.refusal.LineRefusal.the-variants.{Modulus, Count, OddModulus, Threshold, Coefficient}
 
@@ -25,7 +25,7 @@ thresholdOf o = 2 * o .«half_width» + 1
 
 -- the coefficients of a shape are below the modulus M
 abbrev pub coefficientsBelow : ℕ → Shape → Bool
-coefficientsBelow M (Line a b) = ltb a M && ltb b M
+coefficientsBelow M (Straight a b) = ltb a M && ltb b M
 
 -- the first limit that an order passes refuses it
 abbrev pub judged : Order → Result (Unit {0}) LineRefusal

@@ -8,14 +8,13 @@ use Rattle.std.specs.declared.option.Option.{Option}
 use Rattle.std.specs.declared.option.Option.the-variants.{Some, None}
 use Rattle.std.specs.declared.result.Result.{Result}
 use Rattle.std.specs.declared.result.Result.the-variants.{Ok, Err}
+use Rattle.reports.specs.Orders.{straightOrder}
 use Rattle.reports.specs.declared.order.Kind.{Kind}
 use Rattle.reports.specs.declared.order.Kind.the-variants.{Straight, Bowed, Listed}
 use Rattle.reports.specs.declared.order.Mode.{Mode}
 use Rattle.reports.specs.declared.order.Mode.the-variants.{Directed, Nearest}
-use Rattle.reports.specs.declared.order.Order.{Order}
 use Rattle.reports.specs.declared.order.Request.{Request}
 use Rattle.reports.specs.declared.order.Request.the-variants.{Curve, NotReadYet}
-use Rattle.reports.specs.declared.order.Shape.the-variants.{Line}
 use Rattle.reports.specs.declared.refusal.LineRefusal.{LineRefusal}
 use Rattle.reports.specs.declared.refusal.LineRefusal.the-variants.{Letter, Field}
 
@@ -78,17 +77,6 @@ numbersOf (f ∷ fs) = withNumber (numberOf f) (numbersOf fs)
 abbrev pub exactly : ℕ → Option (List ℕ) → Option (List ℕ)
 exactly n None = None
 exactly n (Some ns) = cond (eqb (length ns) n) (Some ns) None
-
--- a straight curve: the modulus, the count, the half width, the slope and the offset
-abbrev pub straightOrder : Mode → List ℕ → Order
-straightOrder m ns =
-    record {
-      mode = m;
-      modulus = getD ns 0 0;
-      count = getD ns 1 0;
-      «half_width» = getD ns 2 0;
-      shape = Line (getD ns 3 0) (getD ns 4 0);
-    }
 
 -- five numbers, or a refusal
 abbrev pub straightWith : Mode → Option (List ℕ) → Result Request LineRefusal

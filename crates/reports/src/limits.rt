@@ -24,7 +24,7 @@ pub fn judge(order: Order) -> Result<Modulus, LineRefusal>
         return Err(LineRefusal::Threshold);
     }
     let below = match order.shape {
-        Shape::Line { slope, offset } => slope < order.modulus && offset < order.modulus,
+        Shape::Straight { slope, offset } => slope < order.modulus && offset < order.modulus,
     };
     if below {
         Ok(modulus)

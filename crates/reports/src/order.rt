@@ -21,7 +21,7 @@ pub enum Kind {
 #[derive(Clone, Copy)]
 pub enum Shape {
     /// (offset − k·slope) mod modulus at each index k.
-    Line { slope: u64, offset: u64 },
+    Straight { slope: u64, offset: u64 },
 }
 
 /// What a line asks for, as it stands there.

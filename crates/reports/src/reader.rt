@@ -1,5 +1,6 @@
 ghost use Prim.Native.Nat.{_+_, _-_, _*_, _^_, _<_};
-ghost use Rattle.reports.specs.Lines.{letter, kindOf, modeOf, numberOf, fields, numbersOf, exactly, straightOrder, straightBy, reading};
+ghost use Rattle.reports.specs.Lines.{letter, kindOf, modeOf, numberOf, fields, numbersOf, exactly, straightBy, reading};
+ghost use Rattle.reports.specs.Orders.{straightOrder};
 ghost use Rattle.reports.specs.Rest.{fieldsAfter};
 ghost use Rattle.std.specs.Options.{Cases, mapped};
 ghost use lib.ListN.{getD, drop};
@@ -109,7 +110,7 @@ fn straight_order(mode: Mode, numbers: [u64; 5]) -> Order
         modulus,
         count,
         half_width,
-        shape: Shape::Line { slope, offset },
+        shape: Shape::Straight { slope, offset },
     }
 }
 

@@ -3,7 +3,7 @@ ghost use Rattle.reports.specs.Close.{shiftOf, valueOf};
 ghost use Rattle.reports.specs.Limits.{judged, thresholdOf};
 ghost use Rattle.reports.specs.Plans.{planValue};
 ghost use Rattle.std.specs.declared.result.Result.the-variants.{Ok};
-ghost use Rattle.reports.specs.declared.order.Shape.the-variants.{Line};
+ghost use Rattle.reports.specs.declared.order.Shape.the-variants.{Straight};
 ghost use mathlib.Core.Path.{_≡_};
 use super::Plan;
 use crate::order::Mode;
@@ -25,10 +25,10 @@ fn shift(order: Order) -> u64
 
 /// The slope and the offset of a straight curve.
 fn coefficients(shape: Shape) -> (u64, u64)
-    ensures are_slope_and_offset { λ r. ⌜ shape ≡ Line (r .0) (r .1) ⌝ }
+    ensures are_slope_and_offset { λ r. ⌜ shape ≡ Straight (r .0) (r .1) ⌝ }
 {
     match shape {
-        Shape::Line { slope, offset } => (slope, offset),
+        Shape::Straight { slope, offset } => (slope, offset),
     }
 }
 
