@@ -14,11 +14,11 @@ pub(crate) fn steps_for(need: u64, by: u64) -> u64
     (need - 1) / by + 1
 }
 
-/// Whether the length has no units.
-pub(crate) fn is_nothing<A: Arithmetic>(length: A) -> bool
+/// Whether the length has no units: then it is not more than itself less itself.
+fn is_nothing<A: Arithmetic>(length: A) -> bool
     ensures tells_whether_it_has_units { λ r. ⌜ r ≡ eqb (units length) 0 ⌝ }
 {
-    !A::from_units(0).less(length)
+    !length.minus(length).less(length)
 }
 
 /// Takes `part` off `length` as often as it goes, at most `most` times: how often, and what is left.
