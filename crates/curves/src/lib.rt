@@ -1,0 +1,4 @@
+// Curves over the grid: their values, and the lines that stand for stretches of them.
+pub mod curve;
+pub mod line;
+pub mod refusal;
