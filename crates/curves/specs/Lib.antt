@@ -1,2 +1,4 @@
+pub mod Kinds
+pub mod Makers
 pub mod Meaning
 pub mod Refusals

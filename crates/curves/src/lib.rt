@@ -2,3 +2,4 @@
 pub mod curve;
 pub mod line;
 pub mod refusal;
+pub mod straight;

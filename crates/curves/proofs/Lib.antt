@@ -1,0 +1,2 @@
+pub mod Residues
+pub mod StraightFacts
