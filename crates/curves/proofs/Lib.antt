@@ -1,2 +1,4 @@
+pub mod Questions
 pub mod Residues
+pub mod ShiftedFacts
 pub mod StraightFacts

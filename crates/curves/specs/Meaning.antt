@@ -24,7 +24,7 @@ pub record LineFacts (m : Meaning) (s n : ℕ) (l : Line) : Type 0 where
   pub offset-below : l .offset < m .modulus
   pub error-below : l .error < m .modulus
   pub near : (j : ℕ) → j < l .reach →
-    residue (m .modulus) ((pos (m .value (s + j)) -ℤ (pos (l .offset) -ℤ pos (j * l .slope))) +ℤ pos (l .error)) ≤ 2 * l .error
+      residue (m .modulus) ((pos (m .value (s + j)) -ℤ (pos (l .offset) -ℤ pos (j * l .slope))) +ℤ pos (l .error)) ≤ 2 * l .error
 
 pub record Facts (m : Meaning) : Type 0 where
   pub modulus-low : 2 ≤ m .modulus

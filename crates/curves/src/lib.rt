@@ -2,4 +2,5 @@
 pub mod curve;
 pub mod line;
 pub mod refusal;
+pub mod shifted;
 pub mod straight;

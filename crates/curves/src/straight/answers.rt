@@ -18,7 +18,10 @@ pub impl Curve for Straight as StraightCurve {
 
     fn value(&self, k: u32) -> Option<u64> {
         if k < self.count {
-            Some(self.modulus.residue_difference(self.offset, k as u64, self.slope))
+            Some(
+                self.modulus
+                    .residue_difference(self.offset, k as u64, self.slope),
+            )
         } else {
             None
         }
@@ -26,8 +29,14 @@ pub impl Curve for Straight as StraightCurve {
 
     fn line(&self, place: u32, length: u32) -> Option<Line> {
         if length >= 1 && place as u64 + length as u64 <= self.count as u64 {
-            let offset = self.modulus.residue_difference(self.offset, place as u64, self.slope);
-            Some(Line { reach: length, slope: self.slope, offset, error: 0 })
+            let offset = self.modulus
+                .residue_difference(self.offset, place as u64, self.slope);
+            Some(Line {
+                reach: length,
+                slope: self.slope,
+                offset,
+                error: 0,
+            })
         } else {
             None
         }

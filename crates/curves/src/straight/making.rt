@@ -17,6 +17,11 @@ impl Straight {
         if slope >= modulus || offset >= modulus {
             return Err(CurveRefusal::Coefficient);
         }
-        Ok(Straight { modulus: circle, count: count as u32, slope, offset })
+        Ok(Straight {
+            modulus: circle,
+            count: count as u32,
+            slope,
+            offset,
+        })
     }
 }
