@@ -2,3 +2,4 @@ pub mod Questions
 pub mod Residues
 pub mod ShiftedFacts
 pub mod StraightFacts
+pub mod WindowLaws

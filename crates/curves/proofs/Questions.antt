@@ -47,3 +47,7 @@ line-answered m s n l f e =
     let to : s + n ≤ m .count = leb-true (s + n) (m .count) (t .1) in
     let P : Line → Type 0 = λ x. LineFacts m s n x in
     record { some = from; within = to; is = w .1; facts = subst P (sym (w .1)) (f .line-facts s n from to) }
+
+-- a stretch within the curve has a line
+pub line-there : (m : Meaning) (s n : ℕ) → Facts m → 1 ≤ n → s + n ≤ m .count → Line-answered m s n (m .line s n)
+line-there m s n f from to = record { some = from; within = to; is = refl; facts = f .line-facts s n from to }
