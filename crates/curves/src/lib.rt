@@ -2,6 +2,7 @@
 use crate::curve::Curve;
 use crate::line::Line;
 use crate::window::Window;
+ghost use Rattle.curves.specs.Offsets.{offset-answer};
 ghost use Rattle.curves.specs.Windows.{Close-are-candidates, Cut-loses-nothing, Distances-are-values, Where-answered, Within-limits, line-window-of};
 ghost use mathlib.Core.Path.{_≡_};
 
@@ -27,4 +28,11 @@ pub fn line_window<C: Curve>(
     ensures without_error_distances_are_values { λ r. ⌜ Where-answered r (Distances-are-values (meaning (now (curve .entry))) place) ⌝ }
 {
     close::window_on_line(curve, place, length, threshold)
+}
+
+/// The offset of the index k for the threshold: the value at k less half the threshold, rounded down; none where k is N or more.
+pub fn offset_of<C: Curve>(curve: &C, threshold: u64, k: u32) -> Option<i64>
+    ensures is_the_offset_below_the_count { λ r. ⌜ r ≡ offset-answer (meaning (now (curve .entry))) threshold k ⌝ }
+{
+    close::offset_at(curve, threshold, k)
 }
