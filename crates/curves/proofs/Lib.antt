@@ -1,3 +1,5 @@
+pub mod BowedFacts
+pub mod Bows
 pub mod Questions
 pub mod Residues
 pub mod ShiftedFacts

@@ -1,6 +1,8 @@
 -- The meanings of the kinds of curves: their values and their lines.
-use Prim.Native.Nat.{ℕ, _+_, _*_}
-use lib.IntN.{pos, _-ℤ_}
+use mathlib.Core.Bool.{cond}
+use Prim.Native.Nat.{ℕ, zero, suc, _+_, _-_, _*_, _/_}
+use lib.Dec.{leb}
+use lib.IntN.{ℤ, pos, negℤ, _+ℤ_, _-ℤ_, _*ℤ_, natAbs}
 use Rattle.grid.specs.Residue.{residue}
 use Rattle.curves.specs.Meaning.{Meaning}
 use Rattle.curves.specs.declared.line.Line.{Line}
@@ -18,6 +20,38 @@ straight-meaning M N a b =
       value = straight-value M a b;
       line = λ s n. record { reach = n; slope = a; offset = straight-value M a b s; error = 0 };
     }
+
+-- ---- bowed: F(k) = (c0 + c1·k + c2·k(k − 1)/2) mod M, where c1 and c2 may be negative
+
+-- k(k − 1)/2: the number of pairs among k things
+abbrev pub pairs : ℕ → ℕ
+pairs k = k * (k - 1) / 2
+
+abbrev pub bowed-value : (M c0 : ℕ) (c1 c2 : ℤ) (k : ℕ) → ℕ
+bowed-value M c0 c1 c2 k = residue M ((pos c0 +ℤ (c1 *ℤ pos k)) +ℤ (c2 *ℤ pos (pairs k)))
+
+-- how far at most the first m points of a bowed curve leave the line through its first two: |c2|·(m − 1)(m − 2)/2
+abbrev pub bow : (size m : ℕ) → ℕ
+bow size m = size * pairs (m - 1)
+
+-- the largest m up to n whose bow is at most the tolerance g
+abbrev pub widest : (size g n : ℕ) → ℕ
+widest size g zero = zero
+widest size g (suc n) = cond (leb (bow size (suc n)) g) (suc n) (widest size g n)
+
+-- the slope at s is −(c1 + c2·s) mod M, and the error the bow of the reach
+abbrev pub bowed-line : (M c0 : ℕ) (c1 c2 : ℤ) (g s n : ℕ) → Line
+bowed-line M c0 c1 c2 g s n =
+    record {
+      reach = widest (natAbs c2) g n;
+      slope = residue M (negℤ (c1 +ℤ (c2 *ℤ pos s)));
+      offset = bowed-value M c0 c1 c2 s;
+      error = bow (natAbs c2) (widest (natAbs c2) g n);
+    }
+
+abbrev pub bowed-meaning : (M N c0 : ℕ) (c1 c2 : ℤ) (g : ℕ) → Meaning
+bowed-meaning M N c0 c1 c2 g =
+    record { modulus = M; count = N; value = bowed-value M c0 c1 c2; line = bowed-line M c0 c1 c2 g }
 
 -- ---- shifted by t: every value and every line's offset gains t, mod M; m is the curve below
 

@@ -6,6 +6,7 @@ ghost use Rattle.curves.specs.Offsets.{offset-answer};
 ghost use Rattle.curves.specs.Windows.{Close-are-candidates, Cut-loses-nothing, Distances-are-values, Where-answered, Within-limits, line-window-of};
 ghost use mathlib.Core.Path.{_≡_};
 
+pub mod bowed;
 mod close;
 pub mod curve;
 pub mod line;
