@@ -1,5 +1,6 @@
 pub mod BowedFacts
 pub mod Bows
+pub mod ListedFacts
 pub mod Questions
 pub mod Residues
 pub mod ShiftedFacts

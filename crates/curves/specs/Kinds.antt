@@ -1,7 +1,9 @@
 -- The meanings of the kinds of curves: their values and their lines.
 use mathlib.Core.Bool.{cond}
+use mathlib.Core.List.{List}
 use Prim.Native.Nat.{ℕ, zero, suc, _+_, _-_, _*_, _/_}
 use lib.Dec.{leb}
+use lib.ListN.{getD, length}
 use lib.IntN.{ℤ, pos, negℤ, _+ℤ_, _-ℤ_, _*ℤ_, natAbs}
 use Rattle.grid.specs.Residue.{residue}
 use Rattle.curves.specs.Meaning.{Meaning}
@@ -52,6 +54,20 @@ bowed-line M c0 c1 c2 g s n =
 abbrev pub bowed-meaning : (M N c0 : ℕ) (c1 c2 : ℤ) (g : ℕ) → Meaning
 bowed-meaning M N c0 c1 c2 g =
     record { modulus = M; count = N; value = bowed-value M c0 c1 c2; line = bowed-line M c0 c1 c2 g }
+
+-- ---- listed: F(k) is entry k mod M, and each line is one point
+
+abbrev pub listed-value : (M : ℕ) → List ℕ → (k : ℕ) → ℕ
+listed-value M entries k = residue M (pos (getD entries k 0))
+
+abbrev pub listed-meaning : (M : ℕ) → List ℕ → Meaning
+listed-meaning M entries =
+    record {
+      modulus = M;
+      count = length entries;
+      value = listed-value M entries;
+      line = λ s n. record { reach = 1; slope = 0; offset = listed-value M entries s; error = 0 };
+    }
 
 -- ---- shifted by t: every value and every line's offset gains t, mod M; m is the curve below
 

@@ -1,18 +1,22 @@
 -- What the makers of curves answer.
 use mathlib.Core.Path.{_≡_}
-use mathlib.Core.Bool.{_&&_}
+use mathlib.Core.Bool.{true, _&&_}
+use mathlib.Core.List.{List, [], _∷_}
 use Prim.Native.Nat.{ℕ, _^_}
 use lib.Dec.{leb, ltb}
 use lib.IntN.{ℤ, natAbs}
+use lib.ListN.{length}
+use denote.Ref.{now}
 use Rattle.std.specs.declared.option.Option.{Option}
 use Rattle.std.specs.declared.option.Option.the-variants.{Some, None}
 use Rattle.std.specs.declared.result.Result.{Result}
 use Rattle.std.specs.declared.result.Result.the-variants.{Ok, Err}
 use Rattle.curves.specs.Meaning.{Meaning}
 use Rattle.curves.specs.Refusals.{first-refusal}
-use Rattle.curves.specs.Kinds.{straight-meaning, bowed-meaning}
+use Rattle.curves.specs.Kinds.{straight-meaning, bowed-meaning, listed-meaning}
 use Rattle.curves.specs.declared.refusal.CurveRefusal.{CurveRefusal}
 use Rattle.curves.specs.declared.bowed.Bowed.{Bowed}
+use Rattle.curves.specs.declared.listed.Listed.{Listed}
 use Rattle.curves.specs.declared.straight.Straight.{Straight}
 
 -- what a straight curve means
@@ -40,3 +44,23 @@ abbrev pub Bowed-made : (M N c0 : ℕ) (c1 c2 : ℤ) (g : ℕ) → Result Bowed 
 Bowed-made M N c0 c1 c2 g (Ok c) =
     (bowed-refused M N c0 c1 c2 g ≡ None) × (bowed-curve c ≡ bowed-meaning M N c0 c1 c2 g)
 Bowed-made M N c0 c1 c2 g (Err refusal) = bowed-refused M N c0 c1 c2 g ≡ Some refusal
+
+-- what a listed curve means
+abbrev pub listed-curve : Listed → Meaning
+listed-curve c = listed-meaning (c .modulus .value) (now (c .entries))
+
+-- the judgement of a modulus M and a list
+abbrev pub listed-refused : (M : ℕ) → List ℕ → Option CurveRefusal
+listed-refused M entries = first-refusal M (length entries) true
+
+abbrev pub judgement : Option CurveRefusal → Result (Unit {0}) CurveRefusal
+judgement None = Ok tt
+judgement (Some refusal) = Err refusal
+
+-- the curve of a modulus M and a list: where they fail the judgement, that of the modulus 2 and the one entry 0
+abbrev pub listed-or : Option CurveRefusal → Meaning → Meaning
+listed-or None m = m
+listed-or (Some refusal) m = listed-meaning 2 (0 ∷ [])
+
+abbrev pub listed-made : (M : ℕ) → List ℕ → Meaning
+listed-made M entries = listed-or (listed-refused M entries) (listed-meaning M entries)

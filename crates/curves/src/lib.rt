@@ -10,6 +10,7 @@ pub mod bowed;
 mod close;
 pub mod curve;
 pub mod line;
+pub mod listed;
 pub mod refusal;
 pub mod shifted;
 pub mod straight;
