@@ -23,10 +23,11 @@ use Rattle.curves.specs.declared.straight.Straight.{Straight}
 abbrev pub straight-curve : Straight → Meaning
 straight-curve c = straight-meaning (c .modulus .value) (c .count) (c .slope) (c .offset)
 
--- a curve of the modulus M, the count N, the slope a and the offset b where none of them is refused, else the first refusal
+-- the slope a and the offset b are below M
 abbrev pub straight-refused : (M N a b : ℕ) → Option CurveRefusal
 straight-refused M N a b = first-refusal M N (ltb a M && ltb b M)
 
+-- the curve of these numbers where none of them is refused, else the first refusal
 abbrev pub Straight-made : (M N a b : ℕ) → Result Straight CurveRefusal → Type 0
 Straight-made M N a b (Ok c) = (straight-refused M N a b ≡ None) × (straight-curve c ≡ straight-meaning M N a b)
 Straight-made M N a b (Err refusal) = straight-refused M N a b ≡ Some refusal
@@ -40,6 +41,7 @@ abbrev pub bowed-refused : (M N c0 : ℕ) (c1 c2 : ℤ) (g : ℕ) → Option Cur
 bowed-refused M N c0 c1 c2 g =
     first-refusal M N (ltb c0 M && (ltb (natAbs c1) M && (leb (natAbs c2) (2 ^ 20) && ltb g M)))
 
+-- the same of a bowed curve
 abbrev pub Bowed-made : (M N c0 : ℕ) (c1 c2 : ℤ) (g : ℕ) → Result Bowed CurveRefusal → Type 0
 Bowed-made M N c0 c1 c2 g (Ok c) =
     (bowed-refused M N c0 c1 c2 g ≡ None) × (bowed-curve c ≡ bowed-meaning M N c0 c1 c2 g)
@@ -53,6 +55,7 @@ listed-curve c = listed-meaning (c .modulus .value) (now (c .entries))
 abbrev pub listed-refused : (M : ℕ) → List ℕ → Option CurveRefusal
 listed-refused M entries = first-refusal M (length entries) true
 
+-- accepted, or the first refusal
 abbrev pub judgement : Option CurveRefusal → Result (Unit {0}) CurveRefusal
 judgement None = Ok tt
 judgement (Some refusal) = Err refusal

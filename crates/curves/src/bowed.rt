@@ -4,7 +4,7 @@ use grid::modulus::Modulus;
 ghost use Prim.Native.Nat.{_<_, _^_, _≤_};
 ghost use lib.IntN.{natAbs};
 
-pub mod answers;
+mod answers;
 mod making;
 mod reach;
 mod values;

@@ -9,6 +9,7 @@ ghost use mathlib.Core.Path.{_≡_};
 pub mod bowed;
 mod close;
 pub mod curve;
+mod limits;
 pub mod line;
 pub mod listed;
 pub mod refusal;

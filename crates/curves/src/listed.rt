@@ -1,11 +1,12 @@
 // Listed curves.
 pub use self::answers::ListedCurve;
+pub use self::making::judge;
 use grid::modulus::Modulus;
 ghost use Prim.Native.Nat.{_^_, _≤_};
 ghost use denote.Ref.{now};
 ghost use lib.ListN.{length};
 
-pub mod answers;
+mod answers;
 mod making;
 
 /// F(k) is entry k mod M, over the caller's list.

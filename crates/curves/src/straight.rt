@@ -3,7 +3,7 @@ pub use self::answers::StraightCurve;
 use grid::modulus::Modulus;
 ghost use Prim.Native.Nat.{_^_, _<_, _≤_};
 
-pub mod answers;
+mod answers;
 mod making;
 
 /// F(k) = (offset − k·slope) mod M for k below the count.

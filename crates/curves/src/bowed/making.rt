@@ -1,8 +1,7 @@
 // Making a bowed curve, where no number is beyond its limit.
 use crate::bowed::Bowed;
+use crate::limits::circle_of;
 use crate::refusal::CurveRefusal;
-use crate::refusal::CurveRefusalFromModulus;
-use grid::modulus::Modulus;
 ghost use Rattle.curves.specs.Makers.{Bowed-made};
 
 impl Bowed {
@@ -17,10 +16,7 @@ impl Bowed {
     ) -> Result<Bowed, CurveRefusal>
         ensures made_of_these_numbers_or_refused_in_order { λ r. ⌜ Bowed-made modulus count c0 c1 c2 tolerance r ⌝ }
     {
-        let circle = Modulus::new(modulus)?;
-        if count < 1 || count > 1 << 20 {
-            return Err(CurveRefusal::Count);
-        }
+        let circle = circle_of(modulus, count)?;
         if c0 >= modulus
             || c1.unsigned_abs() >= modulus
             || c2.unsigned_abs() > 1 << 20

@@ -1,7 +1,7 @@
 // Judging and making a listed curve.
+use crate::limits::circle_of;
 use crate::listed::Listed;
 use crate::refusal::CurveRefusal;
-use crate::refusal::CurveRefusalFromModulus;
 use grid::modulus::Modulus;
 ghost use Rattle.curves.specs.Makers.{judgement, listed-curve, listed-made, listed-refused};
 ghost use Rattle.curves.specs.Kinds.{listed-meaning};
@@ -12,10 +12,7 @@ ghost use mathlib.Core.Path.{_≡_};
 pub fn judge(modulus: u64, entries: &[u64]) -> Result<(), CurveRefusal>
     ensures the_first_refusal_if_any { λ r. ⌜ r ≡ judgement (listed-refused modulus (now (entries .entry))) ⌝ }
 {
-    let _circle = Modulus::new(modulus)?;
-    if entries.len() < 1 || entries.len() > 1 << 20 {
-        return Err(CurveRefusal::Count);
-    }
+    let _circle = circle_of(modulus, entries.len() as u64)?;
     Ok(())
 }
 
@@ -24,12 +21,12 @@ impl<'a> Listed<'a> {
     pub fn new(modulus: u64, entries: &'a [u64]) -> Listed<'a>
         ensures the_curve_of_the_list_or_of_one_zero { λ r. ⌜ listed-curve r ≡ listed-made modulus (now (entries .entry)) ⌝ }
     {
-        match Modulus::new(modulus) {
-            Ok(circle) if entries.len() >= 1 && entries.len() <= 1 << 20 => Listed {
+        match circle_of(modulus, entries.len() as u64) {
+            Ok(circle) => Listed {
                 modulus: circle,
                 entries,
             },
-            _ => one_zero(),
+            Err(_) => one_zero(),
         }
     }
 }

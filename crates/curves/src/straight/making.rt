@@ -1,8 +1,7 @@
 // Making a straight curve, where no number is beyond its limit.
+use crate::limits::circle_of;
 use crate::refusal::CurveRefusal;
-use crate::refusal::CurveRefusalFromModulus;
 use crate::straight::Straight;
-use grid::modulus::Modulus;
 ghost use Rattle.curves.specs.Makers.{Straight-made};
 
 impl Straight {
@@ -10,10 +9,7 @@ impl Straight {
     pub fn new(modulus: u64, count: u64, slope: u64, offset: u64) -> Result<Straight, CurveRefusal>
         ensures made_of_these_numbers_or_refused_in_order { λ r. ⌜ Straight-made modulus count slope offset r ⌝ }
     {
-        let circle = Modulus::new(modulus)?;
-        if count < 1 || count > 1 << 20 {
-            return Err(CurveRefusal::Count);
-        }
+        let circle = circle_of(modulus, count)?;
         if slope >= modulus || offset >= modulus {
             return Err(CurveRefusal::Coefficient);
         }
