@@ -1,3 +1,4 @@
+pub mod Figures
 pub mod Kinds
 pub mod Makers
 pub mod Meaning
