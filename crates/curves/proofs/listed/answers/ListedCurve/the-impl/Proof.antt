@@ -1,765 +1,112 @@
-use Rattle.curves.proofs.ListedFacts.{listed-facts}
+-- A listed curve is a curve. The law is `listed-facts`; each method's contract is the trait's, at the lifetime of the list.
+-- Rattle writes such a proof itself where a trait has no law or a type no lifetime, and this is what it writes.
+use mathlib.Core.Bool.{true}
+use mathlib.Core.List.{[]}
+use mathlib.Core.Path.{refl}
+use Prim.Native.Nat.{ℕ}
+use base.Fml.{Lft}
+use base.Logic.{emp, id⊢}
+use contract.BorrowLft.{_⊑_, ⊑-refl, ⊑-trans}
+use contract.Lifetimes.{Lfts}
+use contract.Running.{givenOf, within}
+use denote.Param.{layouts}
 use denote.Ref.{now}
-use Rattle.curves.proofs.listed.answers.ListedCurve.count.Met
-use Rattle.curves.proofs.listed.answers.ListedCurve.count.Symbol
-use Rattle.curves.proofs.listed.answers.ListedCurve.line.Met as Met'
-use Rattle.curves.proofs.listed.answers.ListedCurve.line.Symbol as Symbol'
-use Rattle.curves.proofs.listed.answers.ListedCurve.modulus.Met as Met''
-use Rattle.curves.proofs.listed.answers.ListedCurve.modulus.Symbol as Symbol''
-use Rattle.curves.proofs.listed.answers.ListedCurve.the-impl.Statement
-use Rattle.curves.proofs.listed.answers.ListedCurve.value.Met as Met'3
-use Rattle.curves.proofs.listed.answers.ListedCurve.value.Symbol as Symbol'3
+use denote.Triple.End.{outs}
+use denote.Triple.Impl.{implements, inside, insides-in, hidden}
+use denote.Triple.Spec.{tripleOf}
+use denote.Triple.Table.{run-framed, widened}
+use mir.Syntax.{Callee, erased, method}
 use Rattle.curves.specs.contracts.curve.Curve.count
 use Rattle.curves.specs.contracts.curve.Curve.line
 use Rattle.curves.specs.contracts.curve.Curve.modulus
 use Rattle.curves.specs.contracts.curve.Curve.value
-use Rattle.curves.specs.contracts.listed.Listed
+use Rattle.curves.specs.contracts.listed.Listed.{the-row}
 use Rattle.curves.specs.contracts.listed.answers.ListedCurve.count as count'
 use Rattle.curves.specs.contracts.listed.answers.ListedCurve.line as line'
 use Rattle.curves.specs.contracts.listed.answers.ListedCurve.modulus as modulus'
-use Rattle.curves.specs.contracts.listed.answers.ListedCurve.the-impl
 use Rattle.curves.specs.contracts.listed.answers.ListedCurve.value as value'
-use base.Logic
-use contract.BorrowLft
-use contract.Running
-use denote.Param
-use denote.Ref
-use denote.Triple.End
-use denote.Triple.Impl
-use denote.Triple.Less
-use denote.Triple.Spec
-use denote.Triple.Table
-use mathlib.Core.Bool
-use mathlib.Core.List
-use mathlib.Core.Path as Path'
-use mir.Syntax
+use Rattle.curves.specs.contracts.listed.answers.ListedCurve.the-impl.{ghosts, dict}
+use Rattle.curves.proofs.listed.answers.ListedCurve.count.Met as count·met
+use Rattle.curves.proofs.listed.answers.ListedCurve.count.Symbol as count·sym
+use Rattle.curves.proofs.listed.answers.ListedCurve.line.Met as line·met
+use Rattle.curves.proofs.listed.answers.ListedCurve.line.Symbol as line·sym
+use Rattle.curves.proofs.listed.answers.ListedCurve.modulus.Met as modulus·met
+use Rattle.curves.proofs.listed.answers.ListedCurve.modulus.Symbol as modulus·sym
+use Rattle.curves.proofs.listed.answers.ListedCurve.value.Met as value·met
+use Rattle.curves.proofs.listed.answers.ListedCurve.value.Symbol as value·sym
+use Rattle.curves.proofs.listed.answers.ListedCurve.the-impl.Statement.{statement}
+use Rattle.curves.proofs.ListedFacts.{listed-facts}
 
-ruleset ends = (Logic.id⊢, Impl.to-emp, Less.less)
+-- the i-th method
+abbrev key : ℕ → Callee
+key i = method dict i (layouts [] tt)
 
-ruleset parts = (
-  BorrowLft.⊑-refl,
-  BorrowLft.⊑-static,
-  BorrowLft.⊑-meet,
-  Impl.in-left,
-  Impl.in-right,
-)
+-- the lifetimes of a call: that of the reference τs .0 is within the curve's τs .1 .0, and this within the list's κ
+reach : (κ : Lft) (τs : Lfts 2) →
+    ((τs .0 ⊑ τs .1 .0) × Unit {0}) × ((τs .1 .0 ⊑ the-row (record { mir = erased; lft = κ }) .lives) × Unit {0}) →
+    ((τs .0 ⊑ τs .0) × ((τs .1 .0 ⊑ κ) × Unit {0})) × ((τs .0 ⊑ κ) × Unit {0})
+reach κ τs h =
+    let inner : τs .1 .0 ⊑ κ =
+    ⊑-trans (τs .1 .0) (the-row (record { mir = erased; lft = κ }) .lives) κ (h .1 .0) (search inside depth 24 fits 20000) in
+    ((⊑-refl (τs .0), (inner, tt)), (⊑-trans (τs .0) (τs .1 .0) κ (h .0 .0) inner, tt))
 
-pub bound : Statement.statement
-bound = λ γ″' x'6 x'7 x'8 x'9 x'10 M' 𝓤' H' 𝓜' 𝓖' 𝓡'. let x'11 : Ref.NamedLft = record {
-  mir = Syntax.erased;
-  lft = x'10;
-} in record {
-  facts = λ c. listed-facts (c .modulus .value) (now (c .entries)) (c .modulus .within .0) (c .modulus .within .1) (c .«count_within» .0) (c .«count_within» .1);
-  modulus = Impl.implements
-      𝓤'
-      H'
-      (𝓖' .A)
-      modulus'.signature
-      2
-      (modulus.ended (Listed.the-row x'11) the-impl.ghosts the-impl.dict .signature .outlives)
-      (λ τs'. (τs' .0, (x'11 .lft, tt)))
-      (Running.givenOf 𝓤' H' 𝓜' 𝓖')
-      (𝓡' .run (γ″' (Syntax.method the-impl.dict 0 (Param.layouts List.[] tt))))
-      (Table.run-framed
-      𝓤'
-      H'
-      𝓜'
-      𝓡'
-      (γ″' (Syntax.method the-impl.dict 0 (Param.layouts List.[] tt))))
-      (modulus'.spec 𝓤' H' (𝓖' .A) (𝓜' .mem) (𝓡' .returns))
-      (λ τs'' a'. record {
-        ghost = modulus.spec
-            (Listed.the-row x'11)
-            the-impl.ghosts
-            the-impl.dict
-            𝓤'
-            H'
-            (𝓖' .A)
-            (𝓜' .mem)
-            (𝓡' .returns)
-            τs''
-            a' .ghost;
-        requires = λ y'. modulus.spec
-            (Listed.the-row x'11)
-            the-impl.ghosts
-            the-impl.dict
-            𝓤'
-            H'
-            (𝓖' .A)
-            (𝓜' .mem)
-            (𝓡' .returns)
-            τs''
-            a' .requires
-            y';
-        ensures = modulus.spec
-            (Listed.the-row x'11)
-            the-impl.ghosts
-            the-impl.dict
-            𝓤'
-            H'
-            (𝓖' .A)
-            (𝓜' .mem)
-            (𝓡' .returns)
-            τs''
-            a' .ensures;
-      })
-      1
-      (λ τs'3. (τs'3 .1 .0, tt))
-      (λ τs'4. (Listed.the-row x'11 .lives, tt))
-      ((0, tt), ((1, tt), tt))
-      (λ τs'5 a'' y''. Logic.emp 𝓤')
-      (λ τs'6 a'3 y'3. Logic.id⊢
-      𝓤'
-      (modulus.spec
-      (Listed.the-row x'11)
-      the-impl.ghosts
-      the-impl.dict
-      𝓤'
-      H'
-      (𝓖' .A)
-      (𝓜' .mem)
-      (𝓡' .returns)
-      τs'6
-      a'3 .requires
-      y'3))
-      (λ τs'7 h'. (
-        (
-          BorrowLft.⊑-refl (τs'7 .0),
-          (
-            BorrowLft.⊑-trans
-                (τs'7 .1 .0)
-                (τs'7 .1 .0)
-                (x'11 .lft)
-                (BorrowLft.⊑-refl (τs'7 .1 .0))
-                (BorrowLft.⊑-trans
-                (τs'7 .1 .0)
-                (Listed.the-row x'11 .lives)
-                (x'11 .lft)
-                (h' .1 .0)
-                (search Impl.inside depth 24 fits 20000)),
-            tt,
-          ),
-        ),
-        (
-          BorrowLft.⊑-trans
-              (τs'7 .0)
-              (τs'7 .1 .0)
-              (x'11 .lft)
-              (BorrowLft.⊑-trans
-              (τs'7 .0)
-              (τs'7 .0)
-              (τs'7 .1 .0)
-              (BorrowLft.⊑-refl (τs'7 .0))
-              (h' .0 .0))
-              (BorrowLft.⊑-trans
-              (τs'7 .1 .0)
-              (Listed.the-row x'11 .lives)
-              (x'11 .lft)
-              (h' .1 .0)
-              (search Impl.inside depth 24 fits 20000)),
-          tt,
-        ),
-      ))
-      (λ τs'8 a'4 y'4. y'4)
-      (λ τs'9 h'' a'5 y'5. Impl.insides-in 𝓤' 0 tt tt (Logic.emp 𝓤') tt)
-      (λ τs'10 a'6 y'6 r'. Impl.hidden
-      2
-      (τs'10 .0, (x'11 .lft, tt))
-      𝓤'
-      H'
-      (𝓖' .A)
-      (modulus'.signature .params)
-      (modulus'.ended .kept)
-      (Bool.true, tt)
-      a'6
-      (λ ws'. modulus'.clauses
-      𝓤'
-      H'
-      (𝓖' .A)
-      (𝓜' .mem)
-      (𝓡' .returns)
-      (τs'10 .0, (x'11 .lft, tt))
-      a'6 .ensures
-      y'6
-      r'
-      (End.outs {n = 2}
-      (τs'10 .0, (x'11 .lft, tt))
-      (modulus'.ended .signature .params)
-      (modulus'.ended .kept)
-      a'6
-      ws'))
-      (λ ws''. modulus.clauses
-      (Listed.the-row x'11)
-      the-impl.ghosts
-      the-impl.dict
-      𝓤'
-      H'
-      (𝓖' .A)
-      (𝓜' .mem)
-      (𝓡' .returns)
-      τs'10
-      a'6 .ensures
-      y'6
-      r'
-      (End.outs {n = 2}
-      τs'10
-      (modulus.ended (Listed.the-row x'11) the-impl.ghosts the-impl.dict .signature .params)
-      (modulus.ended (Listed.the-row x'11) the-impl.ghosts the-impl.dict .kept)
-      a'6
-      ws''))
-      λ x'12. search ends depth 24 fits 20000)
-      (Table.widened
-      𝓤'
-      H'
-      (Spec.tripleOf
-      𝓤'
-      H'
-      (𝓖' .A)
-      modulus'.signature
-      (modulus'.spec 𝓤' H' (𝓖' .A) (𝓜' .mem) (𝓡' .returns)))
-      𝓜'
-      𝓡'
-      γ″'
-      (γ″' Symbol''.name)
-      (γ″' (Syntax.method the-impl.dict 0 (Param.layouts List.[] tt)))
-      (Symbol''.as-method
-      γ″'
-      x'6
-      (Syntax.method the-impl.dict 0 (Param.layouts List.[] tt))
-      Path'.refl)
-      (Met''.met 𝓤' H' 𝓜' 𝓖' (Running.within 𝓤' H' 𝓜' 𝓡' γ″') x'6));
-  count = Impl.implements
-      𝓤'
-      H'
-      (𝓖' .A)
-      count'.signature
-      2
-      (count.ended (Listed.the-row x'11) the-impl.ghosts the-impl.dict .signature .outlives)
-      (λ τs'11. (τs'11 .0, (x'11 .lft, tt)))
-      (Running.givenOf 𝓤' H' 𝓜' 𝓖')
-      (𝓡' .run (γ″' (Syntax.method the-impl.dict 1 (Param.layouts List.[] tt))))
-      (Table.run-framed
-      𝓤'
-      H'
-      𝓜'
-      𝓡'
-      (γ″' (Syntax.method the-impl.dict 1 (Param.layouts List.[] tt))))
-      (count'.spec 𝓤' H' (𝓖' .A) (𝓜' .mem) (𝓡' .returns))
-      (λ τs'12 a'7. record {
-        ghost = count.spec
-            (Listed.the-row x'11)
-            the-impl.ghosts
-            the-impl.dict
-            𝓤'
-            H'
-            (𝓖' .A)
-            (𝓜' .mem)
-            (𝓡' .returns)
-            τs'12
-            a'7 .ghost;
-        requires = λ y'7. count.spec
-            (Listed.the-row x'11)
-            the-impl.ghosts
-            the-impl.dict
-            𝓤'
-            H'
-            (𝓖' .A)
-            (𝓜' .mem)
-            (𝓡' .returns)
-            τs'12
-            a'7 .requires
-            y'7;
-        ensures = count.spec
-            (Listed.the-row x'11)
-            the-impl.ghosts
-            the-impl.dict
-            𝓤'
-            H'
-            (𝓖' .A)
-            (𝓜' .mem)
-            (𝓡' .returns)
-            τs'12
-            a'7 .ensures;
-      })
-      1
-      (λ τs'13. (τs'13 .1 .0, tt))
-      (λ τs'14. (Listed.the-row x'11 .lives, tt))
-      ((0, tt), ((1, tt), tt))
-      (λ τs'15 a'8 y'8. Logic.emp 𝓤')
-      (λ τs'16 a'9 y'9. Logic.id⊢
-      𝓤'
-      (count.spec
-      (Listed.the-row x'11)
-      the-impl.ghosts
-      the-impl.dict
-      𝓤'
-      H'
-      (𝓖' .A)
-      (𝓜' .mem)
-      (𝓡' .returns)
-      τs'16
-      a'9 .requires
-      y'9))
-      (λ τs'17 h'3. (
-        (
-          BorrowLft.⊑-refl (τs'17 .0),
-          (
-            BorrowLft.⊑-trans
-                (τs'17 .1 .0)
-                (τs'17 .1 .0)
-                (x'11 .lft)
-                (BorrowLft.⊑-refl (τs'17 .1 .0))
-                (BorrowLft.⊑-trans
-                (τs'17 .1 .0)
-                (Listed.the-row x'11 .lives)
-                (x'11 .lft)
-                (h'3 .1 .0)
-                (search Impl.inside depth 24 fits 20000)),
-            tt,
-          ),
-        ),
-        (
-          BorrowLft.⊑-trans
-              (τs'17 .0)
-              (τs'17 .1 .0)
-              (x'11 .lft)
-              (BorrowLft.⊑-trans
-              (τs'17 .0)
-              (τs'17 .0)
-              (τs'17 .1 .0)
-              (BorrowLft.⊑-refl (τs'17 .0))
-              (h'3 .0 .0))
-              (BorrowLft.⊑-trans
-              (τs'17 .1 .0)
-              (Listed.the-row x'11 .lives)
-              (x'11 .lft)
-              (h'3 .1 .0)
-              (search Impl.inside depth 24 fits 20000)),
-          tt,
-        ),
-      ))
-      (λ τs'18 a'10 y'10. y'10)
-      (λ τs'19 h'4 a'11 y'11. Impl.insides-in 𝓤' 0 tt tt (Logic.emp 𝓤') tt)
-      (λ τs'20 a'12 y'12 r''. Impl.hidden
-      2
-      (τs'20 .0, (x'11 .lft, tt))
-      𝓤'
-      H'
-      (𝓖' .A)
-      (count'.signature .params)
-      (count'.ended .kept)
-      (Bool.true, tt)
-      a'12
-      (λ ws'3. count'.clauses
-      𝓤'
-      H'
-      (𝓖' .A)
-      (𝓜' .mem)
-      (𝓡' .returns)
-      (τs'20 .0, (x'11 .lft, tt))
-      a'12 .ensures
-      y'12
-      r''
-      (End.outs {n = 2}
-      (τs'20 .0, (x'11 .lft, tt))
-      (count'.ended .signature .params)
-      (count'.ended .kept)
-      a'12
-      ws'3))
-      (λ ws'4. count.clauses
-      (Listed.the-row x'11)
-      the-impl.ghosts
-      the-impl.dict
-      𝓤'
-      H'
-      (𝓖' .A)
-      (𝓜' .mem)
-      (𝓡' .returns)
-      τs'20
-      a'12 .ensures
-      y'12
-      r''
-      (End.outs {n = 2}
-      τs'20
-      (count.ended (Listed.the-row x'11) the-impl.ghosts the-impl.dict .signature .params)
-      (count.ended (Listed.the-row x'11) the-impl.ghosts the-impl.dict .kept)
-      a'12
-      ws'4))
-      λ x'13. search ends depth 24 fits 20000)
-      (Table.widened
-      𝓤'
-      H'
-      (Spec.tripleOf
-      𝓤'
-      H'
-      (𝓖' .A)
-      count'.signature
-      (count'.spec 𝓤' H' (𝓖' .A) (𝓜' .mem) (𝓡' .returns)))
-      𝓜'
-      𝓡'
-      γ″'
-      (γ″' Symbol.name)
-      (γ″' (Syntax.method the-impl.dict 1 (Param.layouts List.[] tt)))
-      (Symbol.as-method
-      γ″'
-      x'7
-      (Syntax.method the-impl.dict 1 (Param.layouts List.[] tt))
-      Path'.refl)
-      (Met.met 𝓤' H' 𝓜' 𝓖' (Running.within 𝓤' H' 𝓜' 𝓡' γ″') x'7));
-  value = Impl.implements
-      𝓤'
-      H'
-      (𝓖' .A)
-      value'.signature
-      2
-      (value.ended (Listed.the-row x'11) the-impl.ghosts the-impl.dict .signature .outlives)
-      (λ τs'21. (τs'21 .0, (x'11 .lft, tt)))
-      (Running.givenOf 𝓤' H' 𝓜' 𝓖')
-      (𝓡' .run (γ″' (Syntax.method the-impl.dict 2 (Param.layouts List.[] tt))))
-      (Table.run-framed
-      𝓤'
-      H'
-      𝓜'
-      𝓡'
-      (γ″' (Syntax.method the-impl.dict 2 (Param.layouts List.[] tt))))
-      (value'.spec 𝓤' H' (𝓖' .A) (𝓜' .mem) (𝓡' .returns))
-      (λ τs'22 a'13. record {
-        ghost = value.spec
-            (Listed.the-row x'11)
-            the-impl.ghosts
-            the-impl.dict
-            𝓤'
-            H'
-            (𝓖' .A)
-            (𝓜' .mem)
-            (𝓡' .returns)
-            τs'22
-            a'13 .ghost;
-        requires = λ y'13. value.spec
-            (Listed.the-row x'11)
-            the-impl.ghosts
-            the-impl.dict
-            𝓤'
-            H'
-            (𝓖' .A)
-            (𝓜' .mem)
-            (𝓡' .returns)
-            τs'22
-            a'13 .requires
-            y'13;
-        ensures = value.spec
-            (Listed.the-row x'11)
-            the-impl.ghosts
-            the-impl.dict
-            𝓤'
-            H'
-            (𝓖' .A)
-            (𝓜' .mem)
-            (𝓡' .returns)
-            τs'22
-            a'13 .ensures;
-      })
-      1
-      (λ τs'23. (τs'23 .1 .0, tt))
-      (λ τs'24. (Listed.the-row x'11 .lives, tt))
-      ((0, tt), ((1, tt), tt))
-      (λ τs'25 a'14 y'14. Logic.emp 𝓤')
-      (λ τs'26 a'15 y'15. Logic.id⊢
-      𝓤'
-      (value.spec
-      (Listed.the-row x'11)
-      the-impl.ghosts
-      the-impl.dict
-      𝓤'
-      H'
-      (𝓖' .A)
-      (𝓜' .mem)
-      (𝓡' .returns)
-      τs'26
-      a'15 .requires
-      y'15))
-      (λ τs'27 h'5. (
-        (
-          BorrowLft.⊑-refl (τs'27 .0),
-          (
-            BorrowLft.⊑-trans
-                (τs'27 .1 .0)
-                (τs'27 .1 .0)
-                (x'11 .lft)
-                (BorrowLft.⊑-refl (τs'27 .1 .0))
-                (BorrowLft.⊑-trans
-                (τs'27 .1 .0)
-                (Listed.the-row x'11 .lives)
-                (x'11 .lft)
-                (h'5 .1 .0)
-                (search Impl.inside depth 24 fits 20000)),
-            tt,
-          ),
-        ),
-        (
-          BorrowLft.⊑-trans
-              (τs'27 .0)
-              (τs'27 .1 .0)
-              (x'11 .lft)
-              (BorrowLft.⊑-trans
-              (τs'27 .0)
-              (τs'27 .0)
-              (τs'27 .1 .0)
-              (BorrowLft.⊑-refl (τs'27 .0))
-              (h'5 .0 .0))
-              (BorrowLft.⊑-trans
-              (τs'27 .1 .0)
-              (Listed.the-row x'11 .lives)
-              (x'11 .lft)
-              (h'5 .1 .0)
-              (search Impl.inside depth 24 fits 20000)),
-          tt,
-        ),
-      ))
-      (λ τs'28 a'16 y'16. y'16)
-      (λ τs'29 h'6 a'17 y'17. Impl.insides-in 𝓤' 0 tt tt (Logic.emp 𝓤') tt)
-      (λ τs'30 a'18 y'18 r'3. Impl.hidden
-      2
-      (τs'30 .0, (x'11 .lft, tt))
-      𝓤'
-      H'
-      (𝓖' .A)
-      (value'.signature .params)
-      (value'.ended .kept)
-      (Bool.true, (Bool.true, tt))
-      a'18
-      (λ ws'5. value'.clauses
-      𝓤'
-      H'
-      (𝓖' .A)
-      (𝓜' .mem)
-      (𝓡' .returns)
-      (τs'30 .0, (x'11 .lft, tt))
-      a'18 .ensures
-      y'18
-      r'3
-      (End.outs {n = 2}
-      (τs'30 .0, (x'11 .lft, tt))
-      (value'.ended .signature .params)
-      (value'.ended .kept)
-      a'18
-      ws'5))
-      (λ ws'6. value.clauses
-      (Listed.the-row x'11)
-      the-impl.ghosts
-      the-impl.dict
-      𝓤'
-      H'
-      (𝓖' .A)
-      (𝓜' .mem)
-      (𝓡' .returns)
-      τs'30
-      a'18 .ensures
-      y'18
-      r'3
-      (End.outs {n = 2}
-      τs'30
-      (value.ended (Listed.the-row x'11) the-impl.ghosts the-impl.dict .signature .params)
-      (value.ended (Listed.the-row x'11) the-impl.ghosts the-impl.dict .kept)
-      a'18
-      ws'6))
-      λ x'14. search ends depth 24 fits 20000)
-      (Table.widened
-      𝓤'
-      H'
-      (Spec.tripleOf
-      𝓤'
-      H'
-      (𝓖' .A)
-      value'.signature
-      (value'.spec 𝓤' H' (𝓖' .A) (𝓜' .mem) (𝓡' .returns)))
-      𝓜'
-      𝓡'
-      γ″'
-      (γ″' Symbol'3.name)
-      (γ″' (Syntax.method the-impl.dict 2 (Param.layouts List.[] tt)))
-      (Symbol'3.as-method
-      γ″'
-      x'8
-      (Syntax.method the-impl.dict 2 (Param.layouts List.[] tt))
-      Path'.refl)
-      (Met'3.met 𝓤' H' 𝓜' 𝓖' (Running.within 𝓤' H' 𝓜' 𝓡' γ″') x'8));
-  line = Impl.implements
-      𝓤'
-      H'
-      (𝓖' .A)
-      line'.signature
-      2
-      (line.ended (Listed.the-row x'11) the-impl.ghosts the-impl.dict .signature .outlives)
-      (λ τs'31. (τs'31 .0, (x'11 .lft, tt)))
-      (Running.givenOf 𝓤' H' 𝓜' 𝓖')
-      (𝓡' .run (γ″' (Syntax.method the-impl.dict 3 (Param.layouts List.[] tt))))
-      (Table.run-framed
-      𝓤'
-      H'
-      𝓜'
-      𝓡'
-      (γ″' (Syntax.method the-impl.dict 3 (Param.layouts List.[] tt))))
-      (line'.spec 𝓤' H' (𝓖' .A) (𝓜' .mem) (𝓡' .returns))
-      (λ τs'32 a'19. record {
-        ghost = line.spec
-            (Listed.the-row x'11)
-            the-impl.ghosts
-            the-impl.dict
-            𝓤'
-            H'
-            (𝓖' .A)
-            (𝓜' .mem)
-            (𝓡' .returns)
-            τs'32
-            a'19 .ghost;
-        requires = λ y'19. line.spec
-            (Listed.the-row x'11)
-            the-impl.ghosts
-            the-impl.dict
-            𝓤'
-            H'
-            (𝓖' .A)
-            (𝓜' .mem)
-            (𝓡' .returns)
-            τs'32
-            a'19 .requires
-            y'19;
-        ensures = line.spec
-            (Listed.the-row x'11)
-            the-impl.ghosts
-            the-impl.dict
-            𝓤'
-            H'
-            (𝓖' .A)
-            (𝓜' .mem)
-            (𝓡' .returns)
-            τs'32
-            a'19 .ensures;
-      })
-      1
-      (λ τs'33. (τs'33 .1 .0, tt))
-      (λ τs'34. (Listed.the-row x'11 .lives, tt))
-      ((0, tt), ((1, tt), tt))
-      (λ τs'35 a'20 y'20. Logic.emp 𝓤')
-      (λ τs'36 a'21 y'21. Logic.id⊢
-      𝓤'
-      (line.spec
-      (Listed.the-row x'11)
-      the-impl.ghosts
-      the-impl.dict
-      𝓤'
-      H'
-      (𝓖' .A)
-      (𝓜' .mem)
-      (𝓡' .returns)
-      τs'36
-      a'21 .requires
-      y'21))
-      (λ τs'37 h'7. (
-        (
-          BorrowLft.⊑-refl (τs'37 .0),
-          (
-            BorrowLft.⊑-trans
-                (τs'37 .1 .0)
-                (τs'37 .1 .0)
-                (x'11 .lft)
-                (BorrowLft.⊑-refl (τs'37 .1 .0))
-                (BorrowLft.⊑-trans
-                (τs'37 .1 .0)
-                (Listed.the-row x'11 .lives)
-                (x'11 .lft)
-                (h'7 .1 .0)
-                (search Impl.inside depth 24 fits 20000)),
-            tt,
-          ),
-        ),
-        (
-          BorrowLft.⊑-trans
-              (τs'37 .0)
-              (τs'37 .1 .0)
-              (x'11 .lft)
-              (BorrowLft.⊑-trans
-              (τs'37 .0)
-              (τs'37 .0)
-              (τs'37 .1 .0)
-              (BorrowLft.⊑-refl (τs'37 .0))
-              (h'7 .0 .0))
-              (BorrowLft.⊑-trans
-              (τs'37 .1 .0)
-              (Listed.the-row x'11 .lives)
-              (x'11 .lft)
-              (h'7 .1 .0)
-              (search Impl.inside depth 24 fits 20000)),
-          tt,
-        ),
-      ))
-      (λ τs'38 a'22 y'22. y'22)
-      (λ τs'39 h'8 a'23 y'23. Impl.insides-in 𝓤' 0 tt tt (Logic.emp 𝓤') tt)
-      (λ τs'40 a'24 y'24 r'4. Impl.hidden
-      2
-      (τs'40 .0, (x'11 .lft, tt))
-      𝓤'
-      H'
-      (𝓖' .A)
-      (line'.signature .params)
-      (line'.ended .kept)
-      (Bool.true, (Bool.true, (Bool.true, tt)))
-      a'24
-      (λ ws'7. line'.clauses
-      𝓤'
-      H'
-      (𝓖' .A)
-      (𝓜' .mem)
-      (𝓡' .returns)
-      (τs'40 .0, (x'11 .lft, tt))
-      a'24 .ensures
-      y'24
-      r'4
-      (End.outs {n = 2}
-      (τs'40 .0, (x'11 .lft, tt))
-      (line'.ended .signature .params)
-      (line'.ended .kept)
-      a'24
-      ws'7))
-      (λ ws'8. line.clauses
-      (Listed.the-row x'11)
-      the-impl.ghosts
-      the-impl.dict
-      𝓤'
-      H'
-      (𝓖' .A)
-      (𝓜' .mem)
-      (𝓡' .returns)
-      τs'40
-      a'24 .ensures
-      y'24
-      r'4
-      (End.outs {n = 2}
-      τs'40
-      (line.ended (Listed.the-row x'11) the-impl.ghosts the-impl.dict .signature .params)
-      (line.ended (Listed.the-row x'11) the-impl.ghosts the-impl.dict .kept)
-      a'24
-      ws'8))
-      λ x'15. search ends depth 24 fits 20000)
-      (Table.widened
-      𝓤'
-      H'
-      (Spec.tripleOf
-      𝓤'
-      H'
-      (𝓖' .A)
-      line'.signature
-      (line'.spec 𝓤' H' (𝓖' .A) (𝓜' .mem) (𝓡' .returns)))
-      𝓜'
-      𝓡'
-      γ″'
-      (γ″' Symbol'.name)
-      (γ″' (Syntax.method the-impl.dict 3 (Param.layouts List.[] tt)))
-      (Symbol'.as-method
-      γ″'
-      x'9
-      (Syntax.method the-impl.dict 3 (Param.layouts List.[] tt))
-      Path'.refl)
-      (Met'.met 𝓤' H' 𝓜' 𝓖' (Running.within 𝓤' H' 𝓜' 𝓡' γ″') x'9));
-}
+pub bound : statement
+bound = λ γ w w′ w″ w‴ κ M 𝓤 H 𝓜 𝓖 𝓡.
+    let A = 𝓖 .A in
+    let row = the-row (record { mir = erased; lft = κ }) in
+    let run = within 𝓤 H 𝓜 𝓡 γ in
+    record {
+      facts = λ c. listed-facts (c .modulus .value) (now (c .entries)) (c .modulus .within .0) (c .modulus .within .1) (c .«count_within» .0) (c .«count_within» .1);
+      modulus =
+          let asked = modulus.spec row ghosts dict 𝓤 H A (𝓜 .mem) (𝓡 .returns) in
+          let own = modulus'.spec 𝓤 H A (𝓜 .mem) (𝓡 .returns) in
+          implements 𝓤 H A modulus'.signature 2 (modulus.ended row ghosts dict .signature .outlives) (λ τs. (τs .0, (κ, tt)))
+          (givenOf 𝓤 H 𝓜 𝓖) (𝓡 .run (γ (key 0))) (run-framed 𝓤 H 𝓜 𝓡 (γ (key 0))) own
+          (λ τs a. record { ghost = asked τs a .ghost; requires = λ y. asked τs a .requires y; ensures = asked τs a .ensures })
+          1 (λ τs. (τs .1 .0, tt)) (λ τs. (row .lives, tt)) ((0, tt), ((1, tt), tt)) (λ τs a y. emp 𝓤) (λ τs a y. id⊢ 𝓤 (asked τs a .requires y)) (λ τs h. reach κ τs h)
+          (λ τs a y. y) (λ τs h a y. insides-in 𝓤 0 tt tt (emp 𝓤) tt)
+          (λ τs a y r. hidden 2 (τs .0, (κ, tt)) 𝓤 H A (modulus'.signature .params) (modulus'.ended .kept) (true, tt) a
+          (λ ws. modulus'.clauses 𝓤 H A (𝓜 .mem) (𝓡 .returns) (τs .0, (κ, tt)) a .ensures y r (outs {n = 2} (τs .0, (κ, tt)) (modulus'.signature .params) (modulus'.ended .kept) a ws))
+          (λ ws. modulus.clauses row ghosts dict 𝓤 H A (𝓜 .mem) (𝓡 .returns) τs a .ensures y r (outs {n = 2} τs (modulus.signature row .params) (modulus.ended row ghosts dict .kept) a ws))
+          (λ _. id⊢ 𝓤 _))
+          (widened 𝓤 H (tripleOf 𝓤 H A modulus'.signature own) 𝓜 𝓡 γ (γ modulus·sym.name) (γ (key 0)) (modulus·sym.as-method γ w (key 0) refl) (modulus·met.met 𝓤 H 𝓜 𝓖 run w));
+      count =
+          let asked = count.spec row ghosts dict 𝓤 H A (𝓜 .mem) (𝓡 .returns) in
+          let own = count'.spec 𝓤 H A (𝓜 .mem) (𝓡 .returns) in
+          implements 𝓤 H A count'.signature 2 (count.ended row ghosts dict .signature .outlives) (λ τs. (τs .0, (κ, tt)))
+          (givenOf 𝓤 H 𝓜 𝓖) (𝓡 .run (γ (key 1))) (run-framed 𝓤 H 𝓜 𝓡 (γ (key 1))) own
+          (λ τs a. record { ghost = asked τs a .ghost; requires = λ y. asked τs a .requires y; ensures = asked τs a .ensures })
+          1 (λ τs. (τs .1 .0, tt)) (λ τs. (row .lives, tt)) ((0, tt), ((1, tt), tt)) (λ τs a y. emp 𝓤) (λ τs a y. id⊢ 𝓤 (asked τs a .requires y)) (λ τs h. reach κ τs h)
+          (λ τs a y. y) (λ τs h a y. insides-in 𝓤 0 tt tt (emp 𝓤) tt)
+          (λ τs a y r. hidden 2 (τs .0, (κ, tt)) 𝓤 H A (count'.signature .params) (count'.ended .kept) (true, tt) a
+          (λ ws. count'.clauses 𝓤 H A (𝓜 .mem) (𝓡 .returns) (τs .0, (κ, tt)) a .ensures y r (outs {n = 2} (τs .0, (κ, tt)) (count'.signature .params) (count'.ended .kept) a ws))
+          (λ ws. count.clauses row ghosts dict 𝓤 H A (𝓜 .mem) (𝓡 .returns) τs a .ensures y r (outs {n = 2} τs (count.signature row .params) (count.ended row ghosts dict .kept) a ws))
+          (λ _. id⊢ 𝓤 _))
+          (widened 𝓤 H (tripleOf 𝓤 H A count'.signature own) 𝓜 𝓡 γ (γ count·sym.name) (γ (key 1)) (count·sym.as-method γ w′ (key 1) refl) (count·met.met 𝓤 H 𝓜 𝓖 run w′));
+      value =
+          let asked = value.spec row ghosts dict 𝓤 H A (𝓜 .mem) (𝓡 .returns) in
+          let own = value'.spec 𝓤 H A (𝓜 .mem) (𝓡 .returns) in
+          implements 𝓤 H A value'.signature 2 (value.ended row ghosts dict .signature .outlives) (λ τs. (τs .0, (κ, tt)))
+          (givenOf 𝓤 H 𝓜 𝓖) (𝓡 .run (γ (key 2))) (run-framed 𝓤 H 𝓜 𝓡 (γ (key 2))) own
+          (λ τs a. record { ghost = asked τs a .ghost; requires = λ y. asked τs a .requires y; ensures = asked τs a .ensures })
+          1 (λ τs. (τs .1 .0, tt)) (λ τs. (row .lives, tt)) ((0, tt), ((1, tt), tt)) (λ τs a y. emp 𝓤) (λ τs a y. id⊢ 𝓤 (asked τs a .requires y)) (λ τs h. reach κ τs h)
+          (λ τs a y. y) (λ τs h a y. insides-in 𝓤 0 tt tt (emp 𝓤) tt)
+          (λ τs a y r. hidden 2 (τs .0, (κ, tt)) 𝓤 H A (value'.signature .params) (value'.ended .kept) (true, (true, tt)) a
+          (λ ws. value'.clauses 𝓤 H A (𝓜 .mem) (𝓡 .returns) (τs .0, (κ, tt)) a .ensures y r (outs {n = 2} (τs .0, (κ, tt)) (value'.signature .params) (value'.ended .kept) a ws))
+          (λ ws. value.clauses row ghosts dict 𝓤 H A (𝓜 .mem) (𝓡 .returns) τs a .ensures y r (outs {n = 2} τs (value.signature row .params) (value.ended row ghosts dict .kept) a ws))
+          (λ _. id⊢ 𝓤 _))
+          (widened 𝓤 H (tripleOf 𝓤 H A value'.signature own) 𝓜 𝓡 γ (γ value·sym.name) (γ (key 2)) (value·sym.as-method γ w″ (key 2) refl) (value·met.met 𝓤 H 𝓜 𝓖 run w″));
+      line =
+          let asked = line.spec row ghosts dict 𝓤 H A (𝓜 .mem) (𝓡 .returns) in
+          let own = line'.spec 𝓤 H A (𝓜 .mem) (𝓡 .returns) in
+          implements 𝓤 H A line'.signature 2 (line.ended row ghosts dict .signature .outlives) (λ τs. (τs .0, (κ, tt)))
+          (givenOf 𝓤 H 𝓜 𝓖) (𝓡 .run (γ (key 3))) (run-framed 𝓤 H 𝓜 𝓡 (γ (key 3))) own
+          (λ τs a. record { ghost = asked τs a .ghost; requires = λ y. asked τs a .requires y; ensures = asked τs a .ensures })
+          1 (λ τs. (τs .1 .0, tt)) (λ τs. (row .lives, tt)) ((0, tt), ((1, tt), tt)) (λ τs a y. emp 𝓤) (λ τs a y. id⊢ 𝓤 (asked τs a .requires y)) (λ τs h. reach κ τs h)
+          (λ τs a y. y) (λ τs h a y. insides-in 𝓤 0 tt tt (emp 𝓤) tt)
+          (λ τs a y r. hidden 2 (τs .0, (κ, tt)) 𝓤 H A (line'.signature .params) (line'.ended .kept) (true, (true, (true, tt))) a
+          (λ ws. line'.clauses 𝓤 H A (𝓜 .mem) (𝓡 .returns) (τs .0, (κ, tt)) a .ensures y r (outs {n = 2} (τs .0, (κ, tt)) (line'.signature .params) (line'.ended .kept) a ws))
+          (λ ws. line.clauses row ghosts dict 𝓤 H A (𝓜 .mem) (𝓡 .returns) τs a .ensures y r (outs {n = 2} τs (line.signature row .params) (line.ended row ghosts dict .kept) a ws))
+          (λ _. id⊢ 𝓤 _))
+          (widened 𝓤 H (tripleOf 𝓤 H A line'.signature own) 𝓜 𝓡 γ (γ line·sym.name) (γ (key 3)) (line·sym.as-method γ w‴ (key 3) refl) (line·met.met 𝓤 H 𝓜 𝓖 run w‴));
+    }
