@@ -1,4 +1,3 @@
-pub mod Figures
 pub mod Kinds
 pub mod Makers
 pub mod Meaning

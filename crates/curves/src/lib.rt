@@ -2,7 +2,6 @@
 use crate::curve::Curve;
 use crate::line::Line;
 use crate::window::Window;
-ghost use Rattle.curves.specs.Figures.{Bowed-figures};
 ghost use Rattle.curves.specs.Offsets.{offset-answer};
 ghost use Rattle.curves.specs.Windows.{Close-are-candidates, Cut-loses-nothing, Distances-are-values, Where-answered, Within-limits, line-window-of};
 ghost use mathlib.Core.Path.{_≡_};
@@ -40,11 +39,6 @@ pub fn offset_of<C: Curve>(curve: &C, threshold: u64, k: u32) -> Option<i64>
 {
     close::offset_at(curve, threshold, k)
 }
-
-/// The worked figures hold of the definitions.
-pub fn figures_hold()
-    ensures bowed_figures_hold { λ _. ⌜ Bowed-figures ⌝ }
-{}
 
 #[cfg(test)]
 mod tests {

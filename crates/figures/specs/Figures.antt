@@ -2,8 +2,11 @@
 use mathlib.Core.Path.{_≡_}
 use mathlib.Core.List.{List, [], _∷_}
 use Prim.Native.Nat.{ℕ}
+use lib.IntN.{pos, negsuc}
 use Rattle.std.specs.declared.option.Option.the-variants.{Some, None}
 use Rattle.std.specs.declared.result.Result.the-variants.{Ok, Err}
+use Rattle.curves.specs.Kinds.{bowed-meaning}
+use Rattle.curves.specs.Meaning.{Meaning, line-of, value-of}
 use Rattle.grid.specs.declared.refusal.ModulusRefusal.the-variants.{OutsideLimits}
 use Rattle.search.specs.Answers.{searched}
 use Rattle.search.specs.Configurations.{configFor, gap}
@@ -42,8 +45,19 @@ pub record GapFigures : Type 0 where
   pub three-points : gap 3 (configFor 45 17 3) 0 ∷ gap 3 (configFor 45 17 3) 1 ∷ gap 3 (configFor 45 17 3) 2 ∷ [] ≡ 17 ∷ 17 ∷ 11 ∷ []
   pub four-points : gap 4 (configFor 45 17 4) 0 ∷ gap 4 (configFor 45 17 4) 3 ∷ gap 4 (configFor 45 17 4) 1 ∷ gap 4 (configFor 45 17 4) 2 ∷ [] ≡ 6 ∷ 11 ∷ 17 ∷ 11 ∷ []
 
+-- the bowed curve of the modulus 1000, the count 5, the coefficients 5, −3 and 2, and the tolerance 3
+abbrev pub bowed : Meaning
+bowed = bowed-meaning 1000 5 5 (negsuc 2) (pos 2) 3
+
+pub record BowedFigures : Type 0 where
+  pub values : value-of bowed 0 ∷ value-of bowed 1 ∷ value-of bowed 2 ∷ value-of bowed 3 ∷ value-of bowed 4 ∷ [] ≡ Some 5 ∷ Some 2 ∷ Some 1 ∷ Some 2 ∷ Some 5 ∷ []
+  pub no-value-at-the-count : value-of bowed 5 ≡ None
+  pub line : line-of bowed 0 5 ≡ Some (record { reach = 3; slope = 3; offset = 5; error = 2 })
+  pub no-line-past-the-count : line-of bowed 1 5 ≡ None
+
 -- all of them
 pub record Figures : Type 0 where
   pub searches : SearchFigures
   pub refusals : RefusalFigures
   pub gaps : GapFigures
+  pub bows : BowedFigures

@@ -25,5 +25,6 @@ returns c =
           the-numbers = refl;
         };
         gaps = record { two-points = refl; three-points = refl; four-points = refl };
+        bows = record { values = refl; no-value-at-the-count = refl; line = refl; no-line-past-the-count = refl };
       };
     }
