@@ -1,10 +1,16 @@
 -- The next close index of a range.
+use mathlib.Core.Bool.{Bool, _&&_}
 use Prim.Native.Nat.{ℕ, _≤_, _<_}
+use lib.Dec.{ltb}
 use Rattle.std.specs.declared.option.Option.{Option}
 use Rattle.std.specs.declared.option.Option.the-variants.{Some, None}
 use Rattle.curves.specs.Meaning.{Meaning}
 use Rattle.curves.specs.Windows.{Close}
 use Rattle.scan.specs.Passed.{None-close}
+
+-- whether the curve has the index k and it is close for the threshold D
+abbrev pub is-close : Meaning → (D k : ℕ) → Bool
+is-close m D k = ltb k (m .count) && ltb (m .value k) D
 
 -- k is the least close index of the curve from s on and below t, for the threshold D
 pub record Least-close (m : Meaning) (D s t k : ℕ) : Type 0 where
