@@ -1,0 +1,3 @@
+pub mod Nexts
+pub mod Passed
+pub mod Steps
