@@ -1,4 +1,5 @@
 -- Configurations: the two lengths that the points r·a mod M leave between them, and the two index steps that cross them.
+-- They mean something for a < M, as every stretch has it.
 use mathlib.Core.Bool.{true, false, cond}
 use Prim.Native.Nat.{ℕ, zero, suc, _+_, _-_}
 use lib.Dec.{leb, ltb}
