@@ -7,7 +7,11 @@ use lib.Dec.{eqb}
 use lib.ListN.{length, getD, take, drop}
 use Rattle.std.proofs.shelf.Lists.{at-drop-more, at-drop-all, take-more, take-all, append-nil}
 use Rattle.std.proofs.shelf.Tests.{cond-both}
-use Rattle.reports.specs.Lines.{onto, fields}
+use Rattle.std.specs.declared.option.Option.{Option}
+use Rattle.std.specs.declared.option.Option.the-variants.{Some, None}
+use Rattle.reports.specs.Rest.{fieldsAfter}
+use Rattle.reports.specs.declared.order.Shape.{Shape}
+use Rattle.reports.specs.Lines.{onto, fields, ended}
 
 pub onto-twice : (p q : List ℕ) (fs : List (List ℕ)) → onto p (onto q fs) ≡ onto (p ++ q) fs
 onto-twice p q [] = refl
@@ -38,3 +42,9 @@ pub no-comma-left : (s : List ℕ) (i : ℕ) → length s ≤ i →
 no-comma-left s i h e =
     sym (e ∙ ap (onto (take i s)) (at-drop-all fields s i h)
     ∙ ap (λ (z : List ℕ). z ∷ []) (append-nil (take i s) ∙ take-all i s h))
+
+-- behind a comma stands a field
+pub some-field-left : (x : Shape) (left : Option (List ℕ)) (t : List ℕ) → left ≡ Some t → None ≡ ended x (fieldsAfter left)
+some-field-left x left t e =
+    let one : (fs : List (List ℕ)) → None ≡ ended x (onto [] fs) = λ fs. elim fs as (λ z. None ≡ ended x (onto [] z)) [ [] ↦ refl | f ∷ gs ↦ refl ] in
+    one (fields t) ∙ ap (ended x) (sym (onto-none t)) ∙ ap (λ (z : Option (List ℕ)). ended x (fieldsAfter z)) (sym e)

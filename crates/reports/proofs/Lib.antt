@@ -1,9 +1,7 @@
 mod Digits
 mod Fields
 mod Numbers
-mod Residues
 mod Judged
-mod Shifted
 mod Passing
 mod Gathered
 mod Texts

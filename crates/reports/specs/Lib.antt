@@ -1,10 +1,8 @@
 pub mod Refusals
-pub mod Orders
 pub mod Lines
 pub mod Rest
 pub mod Limits
 pub mod Close
-pub mod Plans
 pub mod Books
 pub mod Listing
 pub mod Output

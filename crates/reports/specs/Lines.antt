@@ -1,20 +1,22 @@
 -- What a line says: its fields, the letters of kind and mode, and its numbers.
 use mathlib.Core.List.{List, [], _∷_, _++_}
 use mathlib.Core.Bool.{Bool, cond, _&&_}
-use Prim.Native.Nat.{ℕ, _+_, _-_, _*_}
+use Prim.Native.Nat.{ℕ, zero, suc, _+_, _-_, _*_}
 use lib.Dec.{eqb, ltb, leb}
+use lib.IntN.{ℤ, pos, negℤ}
 use lib.ListN.{length, getD, drop}
+use Rattle.std.specs.Options.{mapped, okOr}
 use Rattle.std.specs.declared.option.Option.{Option}
 use Rattle.std.specs.declared.option.Option.the-variants.{Some, None}
 use Rattle.std.specs.declared.result.Result.{Result}
 use Rattle.std.specs.declared.result.Result.the-variants.{Ok, Err}
-use Rattle.reports.specs.Orders.{straightOrder}
 use Rattle.reports.specs.declared.order.Kind.{Kind}
 use Rattle.reports.specs.declared.order.Kind.the-variants.{Straight, Bowed, Listed}
 use Rattle.reports.specs.declared.order.Mode.{Mode}
 use Rattle.reports.specs.declared.order.Mode.the-variants.{Directed, Nearest}
-use Rattle.reports.specs.declared.order.Request.{Request}
-use Rattle.reports.specs.declared.order.Request.the-variants.{Curve, NotReadYet}
+use Rattle.reports.specs.declared.order.Order.{Order}
+use Rattle.reports.specs.declared.order.Shape.{Shape}
+use Rattle.reports.specs.declared.order.Shape.the-variants.{Straight as StraightShape, Bowed as BowedShape, Listed as ListedShape}
 use Rattle.reports.specs.declared.refusal.LineRefusal.{LineRefusal}
 use Rattle.reports.specs.declared.refusal.LineRefusal.the-variants.{Letter, Field}
 
@@ -63,6 +65,10 @@ written n (c ∷ cs) = cond (digit c) (written (n * 10 + (c - 48)) cs) None
 abbrev pub numberOf : List ℕ → Option ℕ
 numberOf f = cond (ltb 0 (length f) && ltb (length f) 14) (written 0 f) None
 
+-- where a number may be negative, one minus may stand before its digits
+abbrev pub signedOf : List ℕ → Option ℤ
+signedOf f = cond (eqb (getD f 0 0) 45) (mapped (λ n. negℤ (pos n)) (numberOf (drop 1 f))) (mapped pos (numberOf f))
+
 -- the numbers of some fields, where each one is a number
 abbrev pub withNumber : Option ℕ → Option (List ℕ) → Option (List ℕ)
 withNumber None ns = None
@@ -78,25 +84,56 @@ abbrev pub exactly : ℕ → Option (List ℕ) → Option (List ℕ)
 exactly n None = None
 exactly n (Some ns) = cond (eqb (length ns) n) (Some ns) None
 
--- five numbers, or a refusal
-abbrev pub straightWith : Mode → Option (List ℕ) → Result Request LineRefusal
-straightWith m None = Err Field
-straightWith m (Some ns) = Ok (Curve (straightOrder m ns))
+-- the first n of some numbers, and zeros where there are fewer
+abbrev pub padded : ℕ → List ℕ → List ℕ
+padded zero vs = []
+padded (suc n) [] = 0 ∷ padded n []
+padded (suc n) (v ∷ vs) = v ∷ padded n vs
 
--- a letter of the mode before them, or a refusal
-abbrev pub straightBy : Result Mode LineRefusal → List (List ℕ) → Result Request LineRefusal
-straightBy (Err e) fs = Err e
-straightBy (Ok m) fs = straightWith m (exactly 5 (numbersOf fs))
+-- what goes on with a value, where there is one
+abbrev pub andThen : {X Y : Type 0} → Option X → (X → Option Y) → Option Y
+andThen None f = None
+andThen (Some x) f = f x
 
--- the first field is the kind: a straight curve then has its mode and five numbers; the other kinds are not read yet
-abbrev pub askedBy : Result Kind LineRefusal → List (List ℕ) → Result Request LineRefusal
-askedBy (Err e) fs = Err e
-askedBy (Ok Straight) fs = straightBy (modeOf (getD fs 0 [])) (drop 1 fs)
-askedBy (Ok Bowed) fs = Ok (NotReadYet Bowed)
-askedBy (Ok Listed) fs = Ok (NotReadYet Listed)
+-- what the first field says, with the fields after it; a field that is missing reads as one without bytes, and is no number
+abbrev pub number : List (List ℕ) → Option (ℕ × List (List ℕ))
+number fs = mapped (λ n. (n, drop 1 fs)) (numberOf (getD fs 0 []))
+
+abbrev pub signedNumber : List (List ℕ) → Option (ℤ × List (List ℕ))
+signedNumber fs = mapped (λ z. (z, drop 1 fs)) (signedOf (getD fs 0 []))
+
+-- a shape, where no field is left
+abbrev pub ended : Shape → List (List ℕ) → Option Shape
+ended s [] = Some s
+ended s (f ∷ fs) = None
+
+-- the shape that the last fields give to a curve with n points: of a straight one the slope and the offset, of a bowed one c0
+-- and c1 and c2, which may be negative, of a listed one its values, of which 32 are kept
+abbrev pub shapeOf : Kind → ℕ → List (List ℕ) → Option Shape
+shapeOf Straight n fs = andThen (number fs) (λ a. andThen (number (a .1)) (λ b. ended (StraightShape (a .0) (b .0)) (b .1)))
+shapeOf Bowed n fs =
+    andThen (number fs)
+    (λ a. andThen (signedNumber (a .1)) (λ b. andThen (signedNumber (b .1)) (λ d. ended (BowedShape (a .0) (b .0) (d .0)) (d .1))))
+shapeOf Listed n fs = mapped (λ vs. ListedShape (padded 32 vs)) (exactly n (numbersOf fs))
+
+-- the modulus, the count and the half width stand before them
+abbrev pub orderOf : Kind → Mode → List (List ℕ) → Option Order
+orderOf kind m fs =
+    andThen (number fs)
+    (λ M. andThen (number (M .1))
+    (λ N. andThen (number (N .1))
+    (λ h. mapped
+    (λ s. record { mode = m; modulus = M .0; count = N .0; «half_width» = h .0; shape = s })
+    (shapeOf kind (N .0) (h .1)))))
+
+-- the letters of kind and mode stand first, and then the numbers
+abbrev pub askedBy : Result Kind LineRefusal → Result Mode LineRefusal → List (List ℕ) → Result Order LineRefusal
+askedBy (Err e) m fs = Err e
+askedBy (Ok kind) (Err e) fs = Err e
+askedBy (Ok kind) (Ok m) fs = okOr (orderOf kind m fs) Field
 
 -- what a line asks for, or why it is refused
-abbrev pub reading : List ℕ → Result Request LineRefusal
+abbrev pub reading : List ℕ → Result Order LineRefusal
 reading line =
     let fs = fields line in
-    cond (ltb 1024 (length line)) (Err Letter) (askedBy (kindOf (getD fs 0 [])) (drop 1 fs))
+    cond (ltb 1024 (length line)) (Err Letter) (askedBy (kindOf (getD fs 0 [])) (modeOf (getD fs 1 [])) (drop 2 fs))

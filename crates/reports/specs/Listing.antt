@@ -63,6 +63,3 @@ listingOf number D hs = (headLine number (length hs) ++ joined (pointLine D) hs)
 
 unfoldable pub refusedLine : ℕ → LineRefusal → List ℕ
 refusedLine number e = codes "curve " ++ (decimal number ++ (codes " refused " ++ (decimal (refusalNumber e) ++ codes "\n")))
-
-unfoldable pub notReadYetLine : ℕ → List ℕ
-notReadYetLine number = codes "curve " ++ (decimal number ++ codes " not read yet\n")

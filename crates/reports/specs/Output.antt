@@ -6,10 +6,9 @@ use Rattle.std.specs.declared.result.Result.the-variants.{Ok, Err}
 use Rattle.reports.specs.Close.{found}
 use Rattle.reports.specs.Limits.{thresholdOf}
 use Rattle.reports.specs.Lines.{reading}
-use Rattle.reports.specs.Listing.{listingOf, refusedLine, notReadYetLine}
+use Rattle.reports.specs.Listing.{listingOf, refusedLine}
 use Rattle.reports.specs.declared.hit.Hit.{Hit}
-use Rattle.reports.specs.declared.order.Request.{Request}
-use Rattle.reports.specs.declared.order.Request.the-variants.{Curve, NotReadYet}
+use Rattle.reports.specs.declared.order.Order.{Order}
 use Rattle.reports.specs.declared.refusal.LineRefusal.{LineRefusal}
 
 -- the listing of the close points, with the threshold D, or the refusal
@@ -17,9 +16,8 @@ abbrev pub pointsText : ℕ → ℕ → Result (List Hit) LineRefusal → List �
 pointsText number D (Ok hs) = listingOf number D hs
 pointsText number D (Err e) = refusedLine number e
 
-abbrev pub answerText : ℕ → Result Request LineRefusal → List ℕ
-answerText number (Ok (Curve o)) = pointsText number (thresholdOf o) (found o)
-answerText number (Ok (NotReadYet _)) = notReadYetLine number
+abbrev pub answerText : ℕ → Result Order LineRefusal → List ℕ
+answerText number (Ok o) = pointsText number (thresholdOf o) (found o)
 answerText number (Err e) = refusedLine number e
 
 abbrev pub output : ℕ → List ℕ → List ℕ

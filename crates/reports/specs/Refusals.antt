@@ -11,13 +11,13 @@ refusalNumber Letter = 40
 refusalNumber Field = 41
 -- 1: a modulus outside 2..2^40
 refusalNumber (Modulus refusal) = modulus-number refusal
--- a count outside 1..2^20
+-- a count outside 1..2^20, for a listed curve outside 1..32
 refusalNumber Count = 2
 -- rounding to nearest with an odd modulus
 refusalNumber OddModulus = 7
 -- a threshold above the modulus
 refusalNumber Threshold = 3
--- a coefficient that is not below the modulus
+-- a coefficient beyond its limit
 refusalNumber Coefficient = 4
 -- more than 512 close points
 refusalNumber BookFull = 12

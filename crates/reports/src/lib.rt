@@ -1,13 +1,11 @@
 //! From the bytes of one line of input to the bytes that are printed for it.
 pub mod book;
 pub mod hit;
-mod hits;
 mod kept;
 pub mod limits;
 mod listing;
 pub mod order;
 pub mod output;
-mod plan;
 pub mod points;
 pub mod reader;
 pub mod refusal;

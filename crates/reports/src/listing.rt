@@ -1,5 +1,5 @@
 ghost use Prim.Native.Nat.{_/_, _^_, _<_, _≤_};
-ghost use Rattle.reports.specs.Listing.{offsetOf, sizeOf, letterOf, closestOf, totalOf, headLine, pointText, pointLine, sumLine, listingOf, refusedLine, notReadYetLine};
+ghost use Rattle.reports.specs.Listing.{offsetOf, sizeOf, letterOf, closestOf, totalOf, headLine, pointText, pointLine, sumLine, listingOf, refusedLine};
 ghost use Rattle.std.specs.Joined.{joined};
 ghost use Rattle.std.specs.Of.String.{string-bytes};
 ghost use Rattle.std.specs.Vec.{made};
@@ -150,10 +150,4 @@ pub(crate) fn refused_line(
 {
     let code = refusal.number();
     format!(heap, "curve {number} refused {code}\n")
-}
-
-pub(crate) fn not_read_yet_line(heap: Global, number: u32) -> Result<String, AllocError>
-    ensures is_the_not_read_yet_line { λ r. ⌜ made r (λ t. string-bytes t ≡ notReadYetLine number) ⌝ }
-{
-    format!(heap, "curve {number} not read yet\n")
 }

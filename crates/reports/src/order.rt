@@ -22,6 +22,10 @@ pub enum Kind {
 pub enum Shape {
     /// (offset − k·slope) mod modulus at each index k.
     Straight { slope: u64, offset: u64 },
+    /// (c0 + c1·k + c2·k(k − 1)/2) mod modulus at each index k.
+    Bowed { c0: u64, c1: i64, c2: i64 },
+    /// The value k mod modulus at each index k below the count. Further values than 32 are not kept.
+    Listed { values: [u64; 32] },
 }
 
 /// What a line asks for, as it stands there.
@@ -42,12 +46,4 @@ impl Order {
     {
         2 * self.half_width + 1
     }
-}
-
-/// What is read of a line.
-#[derive(Clone, Copy)]
-pub enum Request {
-    Curve(Order),
-    /// The kind is known, and its lines are not read yet.
-    NotReadYet(Kind),
 }

@@ -7,9 +7,7 @@ ghost use mathlib.Core.List.{List};
 ghost use mathlib.Core.Path.{_≡_};
 use crate::kept::enough_bytes;
 use crate::listing::listing;
-use crate::listing::not_read_yet_line;
 use crate::listing::refused_line;
-use crate::order::Request;
 use crate::points::close_points;
 use crate::reader::read;
 use std::alloc::AllocError;
@@ -20,11 +18,10 @@ pub fn line_output(heap: Global, number: u32, line: &[u8]) -> Result<String, All
     ensures is_the_output_of_the_line { λ r. ⌜ made r (λ t. string-bytes t ≡ output number (now (line .entry))) ⌝ }
 {
     match read(line) {
-        Ok(Request::Curve(order)) => match close_points(order) {
+        Ok(order) => match close_points(order) {
             Ok(book) => listing(heap, number, order.threshold(), book.as_slice()),
             Err(refusal) => refused_line(heap, number, refusal),
         },
-        Ok(Request::NotReadYet(_)) => not_read_yet_line(heap, number),
         Err(refusal) => refused_line(heap, number, refusal),
     }
 }

@@ -1,7 +1,7 @@
 ghost use Prim.Native.Nat.{_+_, _-_, _*_, _^_, _<_};
-ghost use Rattle.reports.specs.Lines.{letter, kindOf, modeOf, numberOf, fields, numbersOf, exactly, straightBy, reading};
-ghost use Rattle.reports.specs.Orders.{straightOrder};
+ghost use Rattle.reports.specs.Lines.{letter, kindOf, modeOf, numberOf, signedOf, fields, numbersOf, exactly, padded, number as numberFirst, signedNumber, ended as shapeAtEnd, shapeOf, orderOf, reading};
 ghost use Rattle.reports.specs.Rest.{fieldsAfter};
+ghost use Rattle.reports.specs.declared.order.Kind.the-variants.{Straight, Bowed, Listed};
 ghost use Rattle.std.specs.Options.{Cases, mapped};
 ghost use lib.ListN.{getD, drop};
 ghost use mathlib.Core.List.{[], _∷_};
@@ -9,7 +9,6 @@ ghost use mathlib.Core.Path.{_≡_};
 use crate::order::Kind;
 use crate::order::Mode;
 use crate::order::Order;
-use crate::order::Request;
 use crate::order::Shape;
 use crate::refusal::LineRefusal;
 
@@ -66,6 +65,22 @@ fn read_number(field: &[u8]) -> Option<u64>
     Some(number)
 }
 
+/// The number that digits write, with one minus before them if it is negative.
+fn read_signed(field: &[u8]) -> Option<i64>
+    ensures is_the_signed_number { λ r. ⌜ r ≡ signedOf (now (field .entry)) ⌝ }
+{
+    match field {
+        [b'-', digits @ ..] => match read_number(digits) {
+            Some(size) => Some(-(size as i64)),
+            None => None,
+        },
+        _ => match read_number(field) {
+            Some(size) => Some(size as i64),
+            None => None,
+        },
+    }
+}
+
 /// The first field of a text, and what follows its comma, if one ends it.
 fn cut(text: &[u8]) -> (&[u8], Option<&[u8]>)
     ensures splits_off_the_first_field { λ r. ⌜ now (r .0) ∷ fieldsAfter (mapped now (r .1)) ≡ fields (now (text .entry)) ⌝ }
@@ -78,67 +93,131 @@ fn cut(text: &[u8]) -> (&[u8], Option<&[u8]>)
     (text, None)
 }
 
-/// The numbers of the fields that are left, where there are just five.
-fn five_numbers(rest: Option<&[u8]>) -> Option<[u64; 5]>
-    ensures are_the_numbers_left { λ r. ⌜ r ≡ exactly 5 (numbersOf (fieldsAfter (mapped now (rest .entry)))) ⌝ }
+/// The first of the fields that are left, with what follows it: one without bytes where none is left.
+fn next_field(rest: Option<&[u8]>) -> (&[u8], Option<&[u8]>)
+    ensures is_the_first_field { λ r. ⌜ now (r .0) ≡ getD (fieldsAfter (mapped now (rest .entry))) 0 [] ⌝ }
+    ensures leaves_the_others { λ r. ⌜ fieldsAfter (mapped now (r .1)) ≡ drop 1 (fieldsAfter (mapped now (rest .entry))) ⌝ }
+{
+    match rest {
+        Some(text) => cut(text),
+        None => (&[], None),
+    }
+}
+
+/// The number of the next field, with what follows it.
+fn next_number(rest: Option<&[u8]>) -> Option<(u64, Option<&[u8]>)>
+    ensures is_the_number_with_the_rest { λ r. ⌜ mapped (λ p. (p .0, fieldsAfter (mapped now (p .1)))) r ≡ numberFirst (fieldsAfter (mapped now (rest .entry))) ⌝ }
+{
+    let (field, after) = next_field(rest);
+    match read_number(field) {
+        Some(number) => Some((number, after)),
+        None => None,
+    }
+}
+
+/// The number of the next field, which may be negative, with what follows it.
+fn next_signed(rest: Option<&[u8]>) -> Option<(i64, Option<&[u8]>)>
+    ensures is_the_signed_number_with_the_rest { λ r. ⌜ mapped (λ p. (p .0, fieldsAfter (mapped now (p .1)))) r ≡ signedNumber (fieldsAfter (mapped now (rest .entry))) ⌝ }
+{
+    let (field, after) = next_field(rest);
+    match read_signed(field) {
+        Some(number) => Some((number, after)),
+        None => None,
+    }
+}
+
+/// A shape, where no field is left.
+fn ended(shape: Shape, rest: Option<&[u8]>) -> Option<Shape>
+    ensures is_the_shape_where_nothing_follows { λ r. ⌜ r ≡ shapeAtEnd shape (fieldsAfter (mapped now (rest .entry))) ⌝ }
+{
+    match rest {
+        Some(_) => None,
+        None => Some(shape),
+    }
+}
+
+fn read_straight(rest: Option<&[u8]>) -> Option<Shape>
+    ensures is_the_straight_shape { λ r. ⌜ r ≡ shapeOf Straight 0 (fieldsAfter (mapped now (rest .entry))) ⌝ }
+{
+    let (slope, rest) = next_number(rest)?;
+    let (offset, rest) = next_number(rest)?;
+    ended(Shape::Straight { slope, offset }, rest)
+}
+
+fn read_bowed(rest: Option<&[u8]>) -> Option<Shape>
+    ensures is_the_bowed_shape { λ r. ⌜ r ≡ shapeOf Bowed 0 (fieldsAfter (mapped now (rest .entry))) ⌝ }
+{
+    let (c0, rest) = next_number(rest)?;
+    let (c1, rest) = next_signed(rest)?;
+    let (c2, rest) = next_signed(rest)?;
+    ended(Shape::Bowed { c0, c1, c2 }, rest)
+}
+
+/// The values of a listed curve, where there are as many as the count says. Those past the kept places are read over.
+fn read_values(rest: Option<&[u8]>, count: u64) -> Option<[u64; 32]>
+    ensures are_the_values_left { λ r. ⌜ r ≡ mapped (padded 32) (exactly count (numbersOf (fieldsAfter (mapped now (rest .entry))))) ⌝ }
 {
     let mut rest = rest;
-    let mut numbers = [0; 5];
-    for i in 0..5 {
+    let mut values = [0; 32];
+    for i in 0..count {
         let Some(text) = rest else {
             return None;
         };
         let (field, after) = cut(text);
-        let Some(number) = read_number(field) else {
+        let Some(value) = read_number(field) else {
             return None;
         };
-        numbers[i] = number;
+        if i < 32 {
+            values[i as usize] = value;
+        }
         rest = after;
     }
     match rest {
         Some(_) => None,
-        None => Some(numbers),
+        None => Some(values),
     }
 }
 
-fn straight_order(mode: Mode, numbers: [u64; 5]) -> Order
-    ensures is_the_order_of_the_numbers { λ r. ⌜ r ≡ straightOrder mode numbers ⌝ }
+fn read_shape(kind: Kind, count: u64, rest: Option<&[u8]>) -> Option<Shape>
+    ensures is_the_shape_of_the_kind { λ r. ⌜ r ≡ shapeOf kind count (fieldsAfter (mapped now (rest .entry))) ⌝ }
 {
-    let [modulus, count, half_width, slope, offset] = numbers;
-    Order {
+    match kind {
+        Kind::Straight => read_straight(rest),
+        Kind::Bowed => read_bowed(rest),
+        Kind::Listed => match read_values(rest, count) {
+            Some(values) => Some(Shape::Listed { values }),
+            None => None,
+        },
+    }
+}
+
+/// The numbers of a line, after the letters of its kind and mode.
+fn read_order(kind: Kind, mode: Mode, rest: Option<&[u8]>) -> Option<Order>
+    ensures is_the_order_of_the_fields { λ r. ⌜ r ≡ orderOf kind mode (fieldsAfter (mapped now (rest .entry))) ⌝ }
+{
+    let (modulus, rest) = next_number(rest)?;
+    let (count, rest) = next_number(rest)?;
+    let (half_width, rest) = next_number(rest)?;
+    let shape = read_shape(kind, count, rest)?;
+    Some(Order {
         mode,
         modulus,
         count,
         half_width,
-        shape: Shape::Straight { slope, offset },
-    }
-}
-
-/// A straight curve, of which the line holds the fields after the letter of its kind.
-fn read_straight(rest: Option<&[u8]>) -> Result<Request, LineRefusal>
-    ensures is_the_straight_curve { λ r. ⌜ r ≡ straightBy (modeOf (getD (fieldsAfter (mapped now (rest .entry))) 0 [])) (drop 1 (fieldsAfter (mapped now (rest .entry)))) ⌝ }
-{
-    let Some(text) = rest else {
-        return Err(LineRefusal::Letter);
-    };
-    let (field, rest) = cut(text);
-    let mode = read_mode(field)?;
-    match five_numbers(rest) {
-        Some(numbers) => Ok(Request::Curve(straight_order(mode, numbers))),
-        None => Err(LineRefusal::Field),
-    }
+        shape,
+    })
 }
 
 /// What a line of input, without its end, asks for.
-pub fn read(line: &[u8]) -> Result<Request, LineRefusal>
+pub fn read(line: &[u8]) -> Result<Order, LineRefusal>
     ensures is_what_the_line_says { λ r. ⌜ r ≡ reading (now (line .entry)) ⌝ }
 {
     if line.len() > LONGEST_LINE {
         return Err(LineRefusal::Letter);
     }
     let (field, rest) = cut(line);
-    match read_kind(field)? {
-        Kind::Straight => read_straight(rest),
-        kind => Ok(Request::NotReadYet(kind)),
-    }
+    let kind = read_kind(field)?;
+    let (field, rest) = next_field(rest);
+    let mode = read_mode(field)?;
+    read_order(kind, mode, rest).ok_or(LineRefusal::Field)
 }

@@ -12,13 +12,13 @@ pub enum LineRefusal {
     Field,
     /// The modulus is outside 2..2^40.
     Modulus(ModulusRefusal),
-    /// The count is outside 1..2^20.
+    /// The count is outside 1..2^20, or above 32 where the values are listed.
     Count,
     /// Rounding to nearest asks for half of a modulus that is odd.
     OddModulus,
     /// The threshold is above the modulus.
     Threshold,
-    /// A coefficient is not below the modulus.
+    /// A coefficient is beyond its limit.
     Coefficient,
     /// There are more close points than the book has places.
     BookFull,

@@ -1,36 +1,53 @@
-use mathlib.Core.Path.{sym, ap, _∙_}
+use mathlib.Core.Path.{_≡_, sym, ap, subst, _∙_}
+use mathlib.Core.List.{List}
+use Prim.Native.Nat.{ℕ, _^_, _<_}
 use native.Mathlib.Omega.{arith}
 use Rattle.std.specs.declared.result.Result.the-variants.{Err}
+use Rattle.std.specs.shelf.Lists.{All}
+use Rattle.std.proofs.shelf.Elements.{all-push}
 use Rattle.std.proofs.shelf.Lists.{length-take-le}
 use Rattle.std.proofs.shelf.Results.{err-from-errBy}
 use Rattle.reports.specs.Books.{held}
-use Rattle.reports.proofs.Gathered.{one-more-entered, too-many-found, all-found, values-fit}
+use Rattle.reports.specs.declared.hit.Hit.{Hit}
+use Rattle.reports.proofs.Gathered.{value-there, one-more-entered, too-many-found, all-found}
 use Rattle.reports.proofs.points.gather.Needs as need
 
-pub loop-hit-again : need.loop-hit-again
-loop-hit-again c =
-    let f = c .in-Some .ensures tt .is-the-first-close-point in (
-      omega (arith, f .below, c .from-from .ensures),
-      one-more-entered (c .args .plan .now) (c .loop-hit .from) (c .from-from .result) (c .in-Some .hit) (held (c .loop-hit .book)) (held (c .push .last .self)) f (c .from-from .ensures)
-          (c .in-Continue-push .ensures tt .enters-the-point-or-is-full) (c .loop-hit .inv .1),
+pub loop-index-again : need.loop-index-again
+loop-index-again g c =
+    let m = g .C·Curve .meaning (c .args .curve .now) in
+    let facts = g .C·Curve·met .facts (c .args .curve .now) in
+    let f = c .in-Some .ensures tt .is-the-least-close-index-of-the-range in
+    let k = c .in-Some .index in
+    let v = c .in-Some-value .value in
+    let e : v ≡ m .value k = value-there m k v (f .within) (c .in-Some-value .ensures tt .is-the-value-below-the-count) in
+    let small : v < 2 ^ 40 = omega (arith, e, facts .value-below k (f .within), facts .modulus-high) in
+    let p = c .in-Continue-push .ensures tt .enters-the-point-or-is-full in (
+      omega (arith, f .below),
+      one-more-entered m (c .args .threshold) (c .loop-index .from) (c .count-count .result) k v (held (c .loop-index .book)) _ f e p (c .loop-index .inv .1),
+      subst (λ (z : List Hit). All (λ (h : Hit). h .value < 2 ^ 40) z) (sym p) (all-push _ (held (c .loop-index .book)) _ (c .loop-index .inv .2) small),
     )
 
 pub returns-in-Break-push : need.returns-in-Break-push
-returns-in-Break-push c =
+returns-in-Break-push g c =
+    let m = g .C·Curve .meaning (c .args .curve .now) in
     let q = err-from-errBy (c .from-residual .result) (c .from-residual .ensures .1) in
     let e = c .in-Break-push .ensures tt .enters-the-point-or-is-full in
-    let t = too-many-found (c .args .plan .now) (c .loop-hit .from) (c .in-Some .hit) (held (c .loop-hit .book)) (c .in-Some .ensures tt .is-the-first-close-point) (c .loop-hit .inv .1) (e .1) in
+    let t = too-many-found m (c .args .threshold) (c .loop-index .from) (c .count-count .result) (c .in-Some .index) (held (c .loop-index .book))
+    (c .in-Some .ensures tt .is-the-least-close-index-of-the-range) (c .loop-index .inv .1) (e .1) in
     record {
       holds-the-close-points = rw (q .1, q .2) (ap Err (e .0) ∙ sym t);
       values-fit = rw (q .1) tt;
     }
 
 pub returns : need.returns
-returns c =
-    let b = c .loop-hit .book in
+returns g c =
+    let m = g .C·Curve .meaning (c .args .curve .now) in
+    let b = c .loop-index .book in
+    let n : c .count-count .result ≡ m .count = c .count-count .ensures .is-the-count in
+    let far = c .in-rest .ensures tt .is-the-least-close-index-of-the-range in
     record {
       holds-the-close-points =
-          all-found (c .args .plan .now) (c .loop-hit .from) (held b) (c .loop-hit .inv .0) (c .in-rest .ensures tt .is-the-first-close-point) (c .loop-hit .inv .1)
+          all-found m (c .args .threshold) (c .loop-index .from) (held b) (omega (arith, n, c .loop-index .inv .0)) (λ k a l. far k a (omega (arith, n)) l) (c .loop-index .inv .1)
           (omega (arith, length-take-le (b .used) (b .places) (omega (arith, b .few, b .whole)), b .few));
-      values-fit = values-fit (c .args .plan .now) (c .loop-hit .from) (held b) (c .loop-hit .inv .1);
+      values-fit = c .loop-index .inv .2;
     }

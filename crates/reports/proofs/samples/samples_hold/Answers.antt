@@ -5,4 +5,4 @@ use Rattle.reports.proofs.samples.samples_hold.Needs as need
 
 pub returns : need.returns
 unfolding digits headLine pointLine sumLine refusedLine
-returns c = record { samples-are-printed-so = (refl, refl, refl, refl, refl) }
+returns c = record { samples-are-printed-so = (refl, refl, refl, refl, refl, refl, refl) }
