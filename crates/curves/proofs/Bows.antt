@@ -1,7 +1,8 @@
 -- The pairs among some things, the bow of some points, and the widest stretch whose bow is within a tolerance.
-use mathlib.Core.Path.{_≡_, refl, sym, ap, _∙_}
+use mathlib.Core.Path.{_≡_, refl, sym, ap, subst, _∙_}
 use mathlib.Core.Bool.{Bool, true, false, cond}
 use Prim.Native.Nat.{ℕ, zero, suc, _+_, _-_, _*_, _/_, _≤_, _<_}
+use native.Mathlib.Decide.{decLe}
 use native.Mathlib.Nat.{mul-le-mul-left}
 use native.Mathlib.Omega.{arith}
 use lib.Dec.{leb}
@@ -93,3 +94,20 @@ widest-most size g (suc n) =
     cond-both (leb (bow size (suc n)) g) (suc n) (widest size g n) P
     (λ _. omega arith)
     (λ _. omega (arith, widest-most size g n))
+
+-- m is n + 1 or at most n
+by-last : (P : ℕ → Type 0) (n m : ℕ) → m ≤ suc n → P (suc n) → (m ≤ n → P m) → P m
+by-last P n m k here below = by (decLe m n)
+  where
+    by : Dec (m ≤ n) → P m
+    by (yes h) = below h
+    by (no h) = let same : suc n ≡ m = omega arith in subst P same here
+
+-- and no longer part of the stretch has its bow within the tolerance
+pub widest-largest : (size g n m : ℕ) → widest size g n < m → m ≤ n → g < bow size m
+widest-largest size g zero m = λ l k. absurd (omega arith)
+widest-largest size g (suc n) m =
+    let P : ℕ → Type 0 = λ w. w < m → m ≤ suc n → g < bow size m in
+    cond-both (leb (bow size (suc n)) g) (suc n) (widest size g n) P
+    (λ _ l k. absurd (omega arith))
+    (λ e l k. by-last (λ (x : ℕ). g < bow size x) n m k (leb-false (bow size (suc n)) g e) (widest-largest size g n m l))

@@ -149,6 +149,7 @@ mod tests {
         check_eq(listed.value(0), Some(15))?;
         check_eq(listed.count(), 2)?;
         line_is(&listed, 1, 1, [1, 0, 44, 0])?;
+        check_eq(Shifted::new(listed, 2).value(1), Some(1))?;
         let empty = Listed::new(45, &[]);
         check_eq(empty.modulus().get(), 2)?;
         check_eq(empty.count(), 1)?;

@@ -1,6 +1,6 @@
 // How far a line follows a bowed curve.
 use crate::bowed::values::pairs_among;
-ghost use Prim.Native.Nat.{_^_, _≤_};
+ghost use Prim.Native.Nat.{_<_, _^_, _≤_, ℕ};
 ghost use Rattle.curves.specs.Kinds.{bow, widest};
 ghost use mathlib.Core.Path.{_≡_};
 
@@ -19,6 +19,8 @@ pub(super) fn widest_within(size: u64, tolerance: u64, length: u32) -> u32
     ensures is_the_widest { λ r. ⌜ r ≡ widest size tolerance length ⌝ }
     ensures at_least_one { λ r. ⌜ 1 ≤ r ⌝ }
     ensures at_most_the_length { λ r. ⌜ r ≤ length ⌝ }
+    ensures within_the_tolerance { λ r. ⌜ bow size r ≤ tolerance ⌝ }
+    ensures no_more_points_are { λ r. ⌜ ((m : ℕ) → r < m → m ≤ length → tolerance < bow size m) ⌝ }
 {
     let mut low = 1;
     let mut high = length;

@@ -8,7 +8,7 @@ ghost use Rattle.curves.specs.Kinds.{listed-meaning};
 ghost use mathlib.Core.List.{[], _∷_};
 ghost use mathlib.Core.Path.{_≡_};
 
-/// Whether a listed curve is made of this modulus and these entries, or the first refusal that they call for.
+/// Judges a modulus and a list: accepts them, or gives the first refusal that they call for.
 pub fn judge(modulus: u64, entries: &[u64]) -> Result<(), CurveRefusal>
     ensures the_first_refusal_if_any { λ r. ⌜ r ≡ judgement (listed-refused modulus (now (entries .entry))) ⌝ }
 {

@@ -2,7 +2,7 @@ use mathlib.Core.Path.{_≡_, sym, ap, _∙_}
 use Prim.Native.Nat.{ℕ, _+_, _-_, _/_, _≤_, _<_}
 use native.Mathlib.Omega.{arith}
 use Rattle.curves.specs.Kinds.{bow, widest}
-use Rattle.curves.proofs.Bows.{widest-whole, widest-below}
+use Rattle.curves.proofs.Bows.{widest-whole, widest-below, widest-largest}
 use Rattle.curves.proofs.bowed.reach.widest_within.Needs as need
 
 pub loop-low-again : need.loop-low-again
@@ -20,11 +20,14 @@ loop-low-again c =
 pub returns : need.returns
 returns c =
     let e : c .loop-low .low ≡ c .loop-low .high = omega arith in
+    let w : c .loop-low .low ≡ widest (c .args .size) (c .args .tolerance) (c .args .length) =
+    sym (widest-whole (c .args .size) (c .args .tolerance) (c .loop-low .low) (c .loop-low .inv .3))
+    ∙ ap (λ n. widest (c .args .size) (c .args .tolerance) n) e
+    ∙ c .loop-low .inv .4 in
     record {
-      is-the-widest =
-          sym (widest-whole (c .args .size) (c .args .tolerance) (c .loop-low .low) (c .loop-low .inv .3))
-          ∙ ap (λ n. widest (c .args .size) (c .args .tolerance) n) e
-          ∙ c .loop-low .inv .4;
+      is-the-widest = w;
       at-least-one = omega arith;
       at-most-the-length = omega arith;
+      within-the-tolerance = c .loop-low .inv .3;
+      no-more-points-are = λ m l k. widest-largest (c .args .size) (c .args .tolerance) (c .args .length) m (omega (arith, w)) k;
     }
