@@ -3,6 +3,7 @@ ghost use Rattle.reports.specs.Lines.{letter, kindOf, modeOf, numberOf, signed
 ghost use Rattle.reports.specs.Rest.{fieldsAfter};
 ghost use Rattle.reports.specs.declared.order.Kind.the-variants.{Straight, Bowed, Listed};
 ghost use Rattle.std.specs.Options.{Cases, mapped};
+ghost use lib.IntN.{negℤ, pos};
 ghost use lib.ListN.{getD, drop};
 ghost use mathlib.Core.List.{[], _∷_};
 ghost use mathlib.Core.Path.{_≡_};
@@ -65,13 +66,20 @@ fn read_number(field: &[u8]) -> Option<u64>
     Some(number)
 }
 
+fn negative(size: u64) -> i64
+    requires fits { ⌜ size < 10 ^ 13 ⌝ }
+    ensures is_the_negative_number { λ r. ⌜ r ≡ negℤ (pos size) ⌝ }
+{
+    -(size as i64)
+}
+
 /// The number that digits write, with one minus before them if it is negative.
 fn read_signed(field: &[u8]) -> Option<i64>
     ensures is_the_signed_number { λ r. ⌜ r ≡ signedOf (now (field .entry)) ⌝ }
 {
     match field {
         [b'-', digits @ ..] => match read_number(digits) {
-            Some(size) => Some(-(size as i64)),
+            Some(size) => Some(negative(size)),
             None => None,
         },
         _ => match read_number(field) {
