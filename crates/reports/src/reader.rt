@@ -8,6 +8,7 @@ ghost use lib.ListN.{getD, drop};
 ghost use mathlib.Core.List.{[], _∷_};
 ghost use mathlib.Core.Path.{_≡_};
 use crate::order::Kind;
+use crate::order::MOST_LISTED;
 use crate::order::Mode;
 use crate::order::Order;
 use crate::order::Shape;
@@ -162,11 +163,11 @@ fn read_bowed(rest: Option<&[u8]>) -> Option<Shape>
 }
 
 /// The values of a listed curve, where there are as many as the count says. Those past the kept places are read over.
-fn read_values(rest: Option<&[u8]>, count: u64) -> Option<[u64; 32]>
+fn read_values(rest: Option<&[u8]>, count: u64) -> Option<[u64; MOST_LISTED]>
     ensures are_the_values_left { λ r. ⌜ r ≡ mapped (padded 32) (exactly count (numbersOf (fieldsAfter (mapped now (rest .entry))))) ⌝ }
 {
     let mut rest = rest;
-    let mut values = [0; 32];
+    let mut values = [0; MOST_LISTED];
     for i in 0..count {
         let Some(text) = rest else {
             return None;
@@ -175,7 +176,7 @@ fn read_values(rest: Option<&[u8]>, count: u64) -> Option<[u64; 32]>
         let Some(value) = read_number(field) else {
             return None;
         };
-        if i < 32 {
+        if i < MOST_LISTED as u64 {
             values[i as usize] = value;
         }
         rest = after;
