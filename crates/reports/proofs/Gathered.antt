@@ -1,8 +1,8 @@
 -- The close points that were found so far, and all of them.
-use mathlib.Core.Path.{_≡_, sym, ap, _∙_}
+use mathlib.Core.Path.{_≡_, sym, ap, subst, _∙_}
 use mathlib.Core.Bool.{true}
 use mathlib.Core.List.{List, [], _∷_, _++_, map}
-use Prim.Native.Nat.{ℕ, _+_, _≤_, _<_}
+use Prim.Native.Nat.{ℕ, _+_, _^_, _≤_, _<_}
 use native.Mathlib.Numerals.{add-one}
 use native.Mathlib.Omega.{arith}
 use lib.Dec.{ltb}
@@ -10,6 +10,8 @@ use lib.ListN.{length}
 use Rattle.curves.specs.Meaning.{Meaning, value-of}
 use Rattle.std.specs.declared.option.Option.the-variants.{Some, None}
 use Rattle.std.specs.declared.result.Result.the-variants.{Ok, Err}
+use Rattle.std.specs.shelf.Lists.{All}
+use Rattle.std.proofs.shelf.Elements.{all-push}
 use Rattle.std.proofs.shelf.Lists.{length-append, length-map, map-push}
 use Rattle.std.proofs.shelf.Tests.{lt-ltb, le-ltb, cond-true, cond-false}
 use Rattle.reports.proofs.Passing.{one-more-passes, none-between, passing-grows}
@@ -38,6 +40,12 @@ pub one-more-entered : (m : Meaning) (D i t k v : ℕ) (before after : List Hit)
     after ≡ before ++ record { index = k; value = v } ∷ [] → before ≡ hitsBelow m D i → after ≡ hitsBelow m D (k + 1)
 one-more-entered m D i t k v before after f e a b =
     a ∙ ap (λ (n : ℕ). before ++ record { index = k; value = n } ∷ []) e ∙ ap (λ (z : List Hit). z ++ hitAt m k ∷ []) b ∙ sym (next-found m D i t k f)
+
+-- after is before with one point more, whose value fits too
+pub one-more-fits : (before after : List Hit) (h : Hit) → after ≡ before ++ h ∷ [] → All (λ (x : Hit). x .value < 2 ^ 40) before → h .value < 2 ^ 40 →
+    All (λ (x : Hit). x .value < 2 ^ 40) after
+one-more-fits before after h e a b =
+    subst (λ (z : List Hit). All (λ (x : Hit). x .value < 2 ^ 40) z) (sym e) (all-push (λ (x : Hit). x .value < 2 ^ 40) before h a b)
 
 -- 512 close points below i and one more
 pub too-many-found : (m : Meaning) (D i t k : ℕ) (hs : List Hit) → Least-close m D i t k → hs ≡ hitsBelow m D i → length hs ≡ 512 →

@@ -1,8 +1,6 @@
 -- What is left of a line behind a comma. Only contracts of functions inside the crate cite this.
 use mathlib.Core.List.{List, []}
 use Prim.Native.Nat.{ℕ}
-use denote.Ref.{now}
-use Rattle.std.specs.Options.{mapped}
 use Rattle.std.specs.declared.option.Option.{Option}
 use Rattle.std.specs.declared.option.Option.the-variants.{Some, None}
 use Rattle.reports.specs.Lines.{fields}

@@ -1,5 +1,6 @@
 ghost use Rattle.reports.specs.Limits.{coefficientsWithin, judged, mostPoints};
 ghost use mathlib.Core.Path.{_≡_};
+use crate::order::MOST_LISTED;
 use crate::order::Mode;
 use crate::order::Order;
 use crate::order::Shape;
@@ -12,7 +13,7 @@ fn most_points(shape: Shape) -> u64
     ensures is_the_limit_of_the_kind { λ r. ⌜ r ≡ mostPoints shape ⌝ }
 {
     match shape {
-        Shape::Listed { .. } => 32,
+        Shape::Listed { .. } => MOST_LISTED as u64,
         _ => 1 << 20,
     }
 }

@@ -17,6 +17,9 @@ pub enum Kind {
     Listed,
 }
 
+/// The most values that a line may list.
+pub const MOST_LISTED: usize = 32;
+
 /// The numbers that give a curve its values.
 #[derive(Clone, Copy)]
 pub enum Shape {
@@ -24,8 +27,8 @@ pub enum Shape {
     Straight { slope: u64, offset: u64 },
     /// (c0 + c1·k + c2·k(k − 1)/2) mod modulus at each index k.
     Bowed { c0: u64, c1: i64, c2: i64 },
-    /// The value k mod modulus at each index k below the count. Further values than 32 are not kept.
-    Listed { values: [u64; 32] },
+    /// Value k mod modulus at each index k below the count. No more values than these are kept of a line.
+    Listed { values: [u64; MOST_LISTED] },
 }
 
 /// What a line asks for, as it stands there.

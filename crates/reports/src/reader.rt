@@ -3,10 +3,12 @@ ghost use Rattle.reports.specs.Lines.{letter, kindOf, modeOf, numberOf, signed
 ghost use Rattle.reports.specs.Rest.{fieldsAfter};
 ghost use Rattle.reports.specs.declared.order.Kind.the-variants.{Straight, Bowed, Listed};
 ghost use Rattle.std.specs.Options.{Cases, mapped};
+ghost use lib.IntN.{negℤ, pos};
 ghost use lib.ListN.{getD, drop};
 ghost use mathlib.Core.List.{[], _∷_};
 ghost use mathlib.Core.Path.{_≡_};
 use crate::order::Kind;
+use crate::order::MOST_LISTED;
 use crate::order::Mode;
 use crate::order::Order;
 use crate::order::Shape;
@@ -65,13 +67,20 @@ fn read_number(field: &[u8]) -> Option<u64>
     Some(number)
 }
 
+fn negative(size: u64) -> i64
+    requires fits { ⌜ size < 10 ^ 13 ⌝ }
+    ensures is_the_negative_number { λ r. ⌜ r ≡ negℤ (pos size) ⌝ }
+{
+    -(size as i64)
+}
+
 /// The number that digits write, with one minus before them if it is negative.
 fn read_signed(field: &[u8]) -> Option<i64>
     ensures is_the_signed_number { λ r. ⌜ r ≡ signedOf (now (field .entry)) ⌝ }
 {
     match field {
         [b'-', digits @ ..] => match read_number(digits) {
-            Some(size) => Some(-(size as i64)),
+            Some(size) => Some(negative(size)),
             None => None,
         },
         _ => match read_number(field) {
@@ -154,11 +163,11 @@ fn read_bowed(rest: Option<&[u8]>) -> Option<Shape>
 }
 
 /// The values of a listed curve, where there are as many as the count says. Those past the kept places are read over.
-fn read_values(rest: Option<&[u8]>, count: u64) -> Option<[u64; 32]>
+fn read_values(rest: Option<&[u8]>, count: u64) -> Option<[u64; MOST_LISTED]>
     ensures are_the_values_left { λ r. ⌜ r ≡ mapped (padded 32) (exactly count (numbersOf (fieldsAfter (mapped now (rest .entry))))) ⌝ }
 {
     let mut rest = rest;
-    let mut values = [0; 32];
+    let mut values = [0; MOST_LISTED];
     for i in 0..count {
         let Some(text) = rest else {
             return None;
@@ -167,7 +176,7 @@ fn read_values(rest: Option<&[u8]>, count: u64) -> Option<[u64; 32]>
         let Some(value) = read_number(field) else {
             return None;
         };
-        if i < 32 {
+        if i < MOST_LISTED as u64 {
             values[i as usize] = value;
         }
         rest = after;

@@ -1,15 +1,11 @@
-use mathlib.Core.Path.{_≡_, sym, ap, subst, _∙_}
-use mathlib.Core.List.{List}
-use Prim.Native.Nat.{ℕ, _^_, _<_}
+use mathlib.Core.Path.{_≡_, sym, ap, _∙_}
+use Prim.Native.Nat.{_^_, _<_}
 use native.Mathlib.Omega.{arith}
 use Rattle.std.specs.declared.result.Result.the-variants.{Err}
-use Rattle.std.specs.shelf.Lists.{All}
-use Rattle.std.proofs.shelf.Elements.{all-push}
 use Rattle.std.proofs.shelf.Lists.{length-take-le}
 use Rattle.std.proofs.shelf.Results.{err-from-errBy}
 use Rattle.reports.specs.Books.{held}
-use Rattle.reports.specs.declared.hit.Hit.{Hit}
-use Rattle.reports.proofs.Gathered.{value-there, one-more-entered, too-many-found, all-found}
+use Rattle.reports.proofs.Gathered.{value-there, one-more-entered, one-more-fits, too-many-found, all-found}
 use Rattle.reports.proofs.points.gather.Needs as need
 
 pub loop-index-again : need.loop-index-again
@@ -23,8 +19,8 @@ loop-index-again g c =
     let small : v < 2 ^ 40 = omega (arith, e, facts .value-below k (f .within), facts .modulus-high) in
     let p = c .in-Continue-push .ensures tt .enters-the-point-or-is-full in (
       omega (arith, f .below),
-      one-more-entered m (c .args .threshold) (c .loop-index .from) (c .count-count .result) k v (held (c .loop-index .book)) _ f e p (c .loop-index .inv .1),
-      subst (λ (z : List Hit). All (λ (h : Hit). h .value < 2 ^ 40) z) (sym p) (all-push _ (held (c .loop-index .book)) _ (c .loop-index .inv .2) small),
+      one-more-entered m (c .args .threshold) (c .loop-index .from) (c .count-count .result) k v (held (c .loop-index .book)) (held (c .push .last .self)) f e p (c .loop-index .inv .1),
+      one-more-fits (held (c .loop-index .book)) (held (c .push .last .self)) (record { index = k; value = v }) p (c .loop-index .inv .2) small,
     )
 
 pub returns-in-Break-push : need.returns-in-Break-push

@@ -10,10 +10,9 @@ use Rattle.reports.proofs.reader.read_signed.Needs as need
 pub returns-in-Some : need.returns-in-Some
 returns-in-Some c =
     let m : getD (c .args .field .now) 0 0 ≡ 45 = search needs in
-    let b = c .in-Some .ensures tt .below-ten-to-13 in
     record {
       is-the-signed-number =
-          ap Some (omega (arith, ints)) ∙ behind-a-minus (c .args .field .now) (Some (c .in-Some .size)) m (c .in-Some .ensures tt .is-the-number);
+          ap Some (omega (arith, ints, c .negative .ensures .is-the-negative-number, c .in-Some .ensures tt .below-ten-to-13)) ∙ behind-a-minus (c .args .field .now) (Some (c .in-Some .size)) m (c .in-Some .ensures tt .is-the-number);
     }
 
 pub returns-in-None : need.returns-in-None

@@ -8,16 +8,16 @@ use Rattle.reports.specs.Lines.{padded, exactly, numbersOf}
 use Rattle.reports.specs.Rest.{fieldsAfter}
 use Rattle.reports.proofs.Numbers.{set-where-free, left-where-full, one-number-on, too-many}
 use Rattle.reports.proofs.reader.read_values.Needs as need
-use Rattle.reports.proofs.reader.read_values.Needs.{then-i-lt32, else-i-lt32}
+use Rattle.reports.proofs.reader.read_values.Needs.{then-i, else-i}
 
 pub loop-i-again : need.loop-i-again
 loop-i-again c =
     let sf = c .loop-i .inv in
     let v = c .in-Some-read-number .value in
-    let kept : c .if-i-lt32 .values ≡ padded 32 (sf .ns ++ v ∷ []) =
-    elim (c .if-i-lt32 .came) [
-      | then-i-lt32 w ↦ w .values-is ∙ set-where-free (c .loop-i .i) sf v (w .if-i-lt32 .taken)
-      | else-i-lt32 w ↦ w .values-is ∙ left-where-full sf v (w .if-i-lt32 .left)
+    let kept : c .if-i .values ≡ padded 32 (sf .ns ++ v ∷ []) =
+    elim (c .if-i .came) [
+      | then-i w ↦ w .values-is ∙ set-where-free (c .loop-i .i) sf v (w .if-i .taken)
+      | else-i w ↦ w .values-is ∙ left-where-full sf v (w .if-i .left)
     ] in
     one-number-on sf v (now (c .cut .result .0)) (now (c .in-Some .text)) (mapped now (c .cut .result .1)) _ (ap (mapped now) (c .in-Some .is))
     (c .cut .ensures .splits-off-the-first-field) (sym (c .in-Some-read-number .is) ∙ c .read-number .ensures .is-the-number) kept
