@@ -38,3 +38,47 @@ pub fn next_close<A: Arithmetic, C: Curve>(
 {
     nexts::first_close::<A, C>(curve, threshold, from, to)
 }
+
+#[cfg(test)]
+mod tests {
+    use crate::next_close;
+    use curves::bowed::Bowed;
+    use curves::bowed::BowedCurve;
+    use curves::curve::Curve;
+    use curves::shifted::Shifted;
+    use curves::shifted::ShiftedCurve;
+    use lengths::arithmetic::Arithmetic;
+    use lengths::double::Double;
+    use lengths::double::DoubleLengths;
+    use lengths::whole::WholeNumbers;
+    use std::test::*;
+
+    // The close indices one after the other are those that a look at every value finds.
+    fn finds_what_the_values_show<A: Arithmetic, C: Curve>(
+        curve: &C,
+        threshold: u64,
+    ) -> Result<(), Fail> {
+        let end = curve.count();
+        let mut from = 0;
+        for k in 0..end {
+            if let Some(value) = curve.value(k) {
+                if value < threshold {
+                    check_eq(next_close::<A, C>(curve, threshold, from, end), Some(k))?;
+                    from = k + 1;
+                }
+            }
+        }
+        check_eq(next_close::<A, C>(curve, threshold, from, end), None)
+    }
+
+    #[test]
+    fn both_arithmetics_find_the_close_indices_of_a_bowed_curve_shifted_twice() -> Result<
+        (),
+        Fail,
+    > {
+        let bowed = Bowed::new(997, 500, 10, -37, 1, 40).ok().ok_or("refused")?;
+        let curve = Shifted::new(Shifted::new(bowed, 5), 996);
+        finds_what_the_values_show::<u64, Shifted<Shifted<Bowed>>>(&curve, 20)?;
+        finds_what_the_values_show::<Double, Shifted<Shifted<Bowed>>>(&curve, 20)
+    }
+}
