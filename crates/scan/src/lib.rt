@@ -72,11 +72,10 @@ mod tests {
     }
 
     #[test]
-    fn both_arithmetics_find_the_close_indices_of_a_bowed_curve_shifted_twice() -> Result<
-        (),
-        Fail,
-    > {
-        let bowed = Bowed::new(997, 500, 10, -37, 1, 40).ok().ok_or("refused")?;
+    fn both_arithmetics_find_what_the_values_show() -> Result<(), Fail> {
+        let Ok(bowed) = Bowed::new(997, 500, 10, -37, 1, 40) else {
+            return Err(Fail::new("refused"));
+        };
         let curve = Shifted::new(Shifted::new(bowed, 5), 996);
         finds_what_the_values_show::<u64, Shifted<Shifted<Bowed>>>(&curve, 20)?;
         finds_what_the_values_show::<Double, Shifted<Shifted<Bowed>>>(&curve, 20)
