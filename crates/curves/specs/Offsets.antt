@@ -7,13 +7,17 @@ use Rattle.std.specs.declared.option.Option.{Option}
 use Rattle.std.specs.declared.option.Option.the-variants.{Some, None}
 use Rattle.curves.specs.Meaning.{Meaning}
 
--- the offset of the index k for the threshold D: F(k) − ⌊D/2⌋, which may be negative
-abbrev pub signed-offset : Meaning → (D k : ℕ) → ℤ
-signed-offset m D k = pos (m .value k) -ℤ pos (D / 2)
+-- the offset of a value v for the threshold D: v − ⌊D/2⌋, which may be negative
+abbrev pub value-offset : (D v : ℕ) → ℤ
+value-offset D v = pos v -ℤ pos (D / 2)
 
 -- its size
-abbrev pub offset-size : Meaning → (D k : ℕ) → ℕ
-offset-size m D k = natAbs (signed-offset m D k)
+abbrev pub value-size : (D v : ℕ) → ℕ
+value-size D v = natAbs (value-offset D v)
+
+-- the offset of the index k for the threshold D: F(k) − ⌊D/2⌋
+abbrev pub signed-offset : Meaning → (D k : ℕ) → ℤ
+signed-offset m D k = value-offset D (m .value k)
 
 -- the answer to the question for an offset: none where k is N or more
 abbrev pub offset-answer : Meaning → (D k : ℕ) → Option ℤ

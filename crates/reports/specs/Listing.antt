@@ -4,7 +4,7 @@ use mathlib.Core.List.{List, _++_}
 use Prim.Native.Nat.{ℕ, _/_, min}
 use lib.Chars.{codes}
 use lib.Dec.{eqb}
-use lib.IntN.{ℤ, pos, natAbs, _-ℤ_}
+use lib.IntN.{ℤ}
 use lib.ListN.{length}
 use Rattle.std.specs.Iters.{folded}
 use Rattle.std.specs.Joined.{joined}
@@ -12,20 +12,14 @@ use Rattle.std.specs.Written.{decimal, signed}
 use Rattle.std.specs.declared.option.Option.{Option}
 use Rattle.std.specs.declared.option.Option.the-variants.{Some, None}
 use Rattle.std.specs.shelf.Lists.{sumBy}
+use Rattle.curves.specs.Offsets.{value-offset, value-size}
 use Rattle.reports.specs.Refusals.{refusalNumber}
 use Rattle.reports.specs.declared.hit.Hit.{Hit}
 use Rattle.reports.specs.declared.refusal.LineRefusal.{LineRefusal}
 
--- how far a value lies above the middle of the values below the threshold D
-abbrev pub offsetOf : ℕ → ℕ → ℤ
-offsetOf D v = pos v -ℤ pos (D / 2)
-
-abbrev pub sizeOf : ℕ → ℕ → ℕ
-sizeOf D v = natAbs (offsetOf D v)
-
 -- G where the size is the largest, E where it is 0, H elsewhere: the first that fits
 abbrev pub letterOf : ℕ → ℕ → List ℕ
-letterOf D v = cond (eqb (sizeOf D v) (D / 2)) (codes "G") (cond (eqb (sizeOf D v) 0) (codes "E") (codes "H"))
+letterOf D v = cond (eqb (value-size D v) (D / 2)) (codes "G") (cond (eqb (value-size D v) 0) (codes "E") (codes "H"))
 
 -- the lesser of a size and the least one before it, if there is one
 abbrev pub nearer : Option ℕ → ℕ → Option ℕ
@@ -34,11 +28,11 @@ nearer (Some m) n = Some (min m n)
 
 -- the least size among the points, if there is a point
 abbrev pub closestOf : ℕ → List Hit → Option ℕ
-closestOf D hs = folded (λ m h. nearer m (sizeOf D (h .value))) None hs
+closestOf D hs = folded (λ m h. nearer m (value-size D (h .value))) None hs
 
 -- the sum of the sizes
 abbrev pub totalOf : ℕ → List Hit → ℕ
-totalOf D hs = sumBy (λ h. sizeOf D (h .value)) hs
+totalOf D hs = sumBy (λ h. value-size D (h .value)) hs
 
 unfoldable pub headLine : ℕ → ℕ → List ℕ
 headLine number count = codes "curve " ++ (decimal number ++ (codes " hits " ++ (decimal count ++ codes "\n")))
@@ -48,7 +42,7 @@ abbrev pub pointText : ℕ → List ℕ → ℤ → List ℕ
 pointText k letter offset = decimal k ++ (codes " " ++ (letter ++ (codes " " ++ (signed offset ++ codes "\n"))))
 
 unfoldable pub pointLine : ℕ → Hit → List ℕ
-pointLine D h = pointText (h .index) (letterOf D (h .value)) (offsetOf D (h .value))
+pointLine D h = pointText (h .index) (letterOf D (h .value)) (value-offset D (h .value))
 
 abbrev pub closestText : Option ℕ → List ℕ
 closestText None = codes "-"

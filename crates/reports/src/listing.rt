@@ -1,5 +1,6 @@
 ghost use Prim.Native.Nat.{_/_, _^_, _<_, _≤_};
-ghost use Rattle.reports.specs.Listing.{offsetOf, sizeOf, letterOf, closestOf, totalOf, headLine, pointText, pointLine, sumLine, listingOf, refusedLine};
+ghost use Rattle.curves.specs.Offsets.{value-offset, value-size};
+ghost use Rattle.reports.specs.Listing.{letterOf, closestOf, totalOf, headLine, pointText, pointLine, sumLine, listingOf, refusedLine};
 ghost use Rattle.std.specs.Joined.{joined};
 ghost use Rattle.std.specs.Of.String.{string-bytes};
 ghost use Rattle.std.specs.Vec.{made};
@@ -17,7 +18,7 @@ use std::alloc::Global;
 /// How far a value lies above the middle of the values below the threshold.
 fn offset(threshold: u64, value: u64) -> i64
     requires numbers_fit { ⌜ threshold ≤ 2 ^ 40 ⌝ ∗ ⌜ value < 2 ^ 40 ⌝ }
-    ensures is_the_offset { λ r. ⌜ r ≡ offsetOf threshold value ⌝ }
+    ensures is_the_offset { λ r. ⌜ r ≡ value-offset threshold value ⌝ }
 {
     value as i64 - (threshold / 2) as i64
 }
@@ -25,7 +26,7 @@ fn offset(threshold: u64, value: u64) -> i64
 /// How far a value lies from that middle, on either side.
 fn size(threshold: u64, value: u64) -> u64
     requires numbers_fit { ⌜ threshold ≤ 2 ^ 40 ⌝ ∗ ⌜ value < 2 ^ 40 ⌝ }
-    ensures is_the_size { λ r. ⌜ r ≡ sizeOf threshold value ⌝ }
+    ensures is_the_size { λ r. ⌜ r ≡ value-size threshold value ⌝ }
     ensures is_small { λ r. ⌜ r < 2 ^ 40 ⌝ }
 {
     offset(threshold, value).unsigned_abs()

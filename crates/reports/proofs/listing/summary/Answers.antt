@@ -7,7 +7,8 @@ use Rattle.std.specs.declared.option.Option.the-variants.{None}
 use Rattle.std.proofs.shelf.Elements.{all-getD}
 use Rattle.std.proofs.shelf.Lists.{take-all}
 use Rattle.std.proofs.shelf.Sums.{folded-more, sumBy-more}
-use Rattle.reports.specs.Listing.{sizeOf, nearer, closestOf, totalOf}
+use Rattle.reports.specs.Listing.{nearer, closestOf, totalOf}
+use Rattle.curves.specs.Offsets.{value-size}
 use Rattle.reports.specs.declared.hit.Hit.{Hit}
 use Rattle.reports.proofs.listing.summary.Needs as need
 
@@ -25,11 +26,11 @@ loop-hit-again c =
       e .has-the-lesser-size
           ∙ ap (λ (m : Option ℕ). nearer m (c .size .result)) (c .loop-hit .inv .0)
           ∙ ap (nearer (closestOf D (take i hs))) z
-          ∙ sym (folded-more (λ m (h : Hit). nearer m (sizeOf D (h .value))) None hs i _ (c .loop-hit-test .taken)),
+          ∙ sym (folded-more (λ m (h : Hit). nearer m (value-size D (h .value))) None hs i _ (c .loop-hit-test .taken)),
       e .has-the-sum
           ∙ ap (λ (n : ℕ). n + c .size .result) (c .loop-hit .inv .1)
           ∙ ap (λ (n : ℕ). totalOf D (take i hs) + n) z
-          ∙ sym (sumBy-more (λ (h : Hit). sizeOf D (h .value)) hs i _ (c .loop-hit-test .taken)),
+          ∙ sym (sumBy-more (λ (h : Hit). value-size D (h .value)) hs i _ (c .loop-hit-test .taken)),
       omega (arith, e .has-the-sum, c .size .ensures .is-small, c .loop-hit .inv .2),
     )
 
