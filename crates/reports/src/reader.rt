@@ -67,6 +67,7 @@ fn read_number(field: &[u8]) -> Option<u64>
     Some(number)
 }
 
+/// The number of that size below 0.
 fn negative(size: u64) -> i64
     requires fits { ⌜ size < 10 ^ 13 ⌝ }
     ensures is_the_negative_number { λ r. ⌜ r ≡ negℤ (pos size) ⌝ }
@@ -145,6 +146,7 @@ fn ended(shape: Shape, rest: Option<&[u8]>) -> Option<Shape>
     }
 }
 
+/// The slope and the offset of a straight curve, and nothing after them.
 fn read_straight(rest: Option<&[u8]>) -> Option<Shape>
     ensures is_the_straight_shape { λ r. ⌜ r ≡ shapeOf Straight 0 (fieldsAfter (mapped now (rest .entry))) ⌝ }
 {
@@ -153,6 +155,7 @@ fn read_straight(rest: Option<&[u8]>) -> Option<Shape>
     ended(Shape::Straight { slope, offset }, rest)
 }
 
+/// The coefficients of a bowed curve, of which the last two may be negative, and nothing after them.
 fn read_bowed(rest: Option<&[u8]>) -> Option<Shape>
     ensures is_the_bowed_shape { λ r. ⌜ r ≡ shapeOf Bowed 0 (fieldsAfter (mapped now (rest .entry))) ⌝ }
 {
@@ -187,6 +190,7 @@ fn read_values(rest: Option<&[u8]>, count: u64) -> Option<[u64; MOST_LISTED]>
     }
 }
 
+/// The last fields of a line, by the kind of its curve.
 fn read_shape(kind: Kind, count: u64, rest: Option<&[u8]>) -> Option<Shape>
     ensures is_the_shape_of_the_kind { λ r. ⌜ r ≡ shapeOf kind count (fieldsAfter (mapped now (rest .entry))) ⌝ }
 {
