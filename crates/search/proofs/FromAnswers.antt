@@ -1,17 +1,14 @@
 -- What an answer of the search says of the distances.
 use mathlib.Core.Path.{_≡_, refl, sym, ap, _∙_, subst}
-use mathlib.Core.Bool.{Bool, true, false, cond, _&&_}
+use mathlib.Core.Bool.{Bool, true, false, cond}
 use mathlib.Core.Logic.{⊎-elim}
-use Prim.Native.Nat.{ℕ, zero, suc, _^_, _≤_, _<_}
+use Prim.Native.Nat.{ℕ, zero, suc, _≤_, _<_}
 use native.Mathlib.Omega.{arith}
-use lib.Dec.{leb, ltb}
+use lib.Dec.{ltb}
 use Rattle.std.specs.declared.option.Option.{Option}
-use Rattle.std.specs.declared.option.Option.the-variants.{None}
-use Rattle.std.specs.declared.result.Result.the-variants.{Ok}
-use Rattle.std.proofs.shelf.Tests.{cases-lt, cases-bool, cases-order, ltb-true, ltb-false, lt-ltb, le-ltb, le-leb, and-from, true≢false, cond-true, cond-false}
+use Rattle.std.proofs.shelf.Tests.{cases-lt, cases-bool, cases-order, ltb-true, ltb-false, lt-ltb, le-ltb, true≢false, cond-true, cond-false}
 use Rattle.search.specs.Points.{distance, least}
-use Rattle.search.specs.Answers.{answer, answer-or, closeAt, searched}
-use Rattle.search.specs.Refusals.{refused}
+use Rattle.search.specs.Answers.{answer, closeAt}
 use Rattle.search.specs.declared.evidence.Evidence.{Evidence}
 use Rattle.search.specs.declared.answer.Answer.{Answer}
 use Rattle.search.specs.declared.answer.Answer.the-variants.{Close, Clear}
@@ -113,28 +110,3 @@ clear-answer M a b D n e c j h =
     (λ (l : m < n). absurd (true≢false (sym (close-at M a b m) ∙ sym (ap isClose (c ∙ cond-true (ltb m n) _ _ (lt-ltb m n l))))))
     (λ (l : n ≤ m). ltb-false _ _ (least-below (near M a b D) n j (omega arith)))
     (cases-lt m n)
-
--- numbers within their limits are not refused
-pub not-refused : (M a b D n : ℕ) → 2 ≤ M → M ≤ 2 ^ 40 → a < M → b < M → D ≤ M → 1 ≤ n → n ≤ 2 ^ 20 → refused M a b D n ≡ None
-not-refused M a b D n h1 h2 h3 h4 h5 h6 h7 =
-    let p : leb 2 M && leb M (2 ^ 40) ≡ true = and-from (leb 2 M) (leb M (2 ^ 40)) (le-leb 2 M h1) (le-leb M (2 ^ 40) h2) in
-    let q : ltb a M && ltb b M ≡ true = and-from (ltb a M) (ltb b M) (lt-ltb a M h3) (lt-ltb b M h4) in
-    let r = le-leb D M h5 in
-    let s : leb 1 n && leb n (2 ^ 20) ≡ true = and-from (leb 1 n) (leb n (2 ^ 20)) (le-leb 1 n h6) (le-leb n (2 ^ 20) h7) in
-    cond-true _ _ _ p ∙ cond-true _ _ _ q ∙ cond-true _ _ _ r ∙ cond-true _ _ _ s
-
-pub searched-within : (M a b D n : ℕ) → 2 ≤ M → M ≤ 2 ^ 40 → a < M → b < M → D ≤ M → 1 ≤ n → n ≤ 2 ^ 20 → searched M a b D n ≡ Ok (answer M a b D n)
-searched-within M a b D n h1 h2 h3 h4 h5 h6 h7 = ap (λ o. answer-or o (answer M a b D n)) (not-refused M a b D n h1 h2 h3 h4 h5 h6 h7)
-
--- what an answer to numbers within their limits says
-pub close-searched : (M a b D n k v : ℕ) (e : Option Evidence) (r : Answer) → 2 ≤ M → M ≤ 2 ^ 40 → a < M → b < M → D ≤ M → 1 ≤ n → n ≤ 2 ^ 20 →
-    Ok r ≡ searched M a b D n → r ≡ Close k v e → First M a b D n k v
-close-searched M a b D n k v e r h1 h2 h3 h4 h5 h6 h7 c i =
-    let z = c ∙ searched-within M a b D n h1 h2 h3 h4 h5 h6 h7 in
-    let w : Close k v e ≡ answer M a b D n = cc in close-answer M a b D n k v e w
-
-pub clear-searched : (M a b D n : ℕ) (e : Evidence) (r : Answer) → 2 ≤ M → M ≤ 2 ^ 40 → a < M → b < M → D ≤ M → 1 ≤ n → n ≤ 2 ^ 20 →
-    Ok r ≡ searched M a b D n → r ≡ Clear e → (j : ℕ) → j < n → D ≤ distance M a b j
-clear-searched M a b D n e r h1 h2 h3 h4 h5 h6 h7 c i =
-    let z = c ∙ searched-within M a b D n h1 h2 h3 h4 h5 h6 h7 in
-    let w : Clear e ≡ answer M a b D n = cc in clear-answer M a b D n e w
