@@ -1,3 +1,4 @@
+#![tactic(auto)]
 // The grid: a circle of M units, and whole numbers laid on it.
 pub mod modulus;
 pub mod refusal;
