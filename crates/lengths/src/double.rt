@@ -3,7 +3,6 @@ ghost use Rattle.std.specs.Prelude.{◌≡◌, ◌-◌, ◌^◌, ◌≤◌};
 ghost use Rattle.std.specs.Float.Ieee as Ieee;
 ghost use Rattle.std.specs.Float.{binary64};
 ghost use Rattle.lengths.specs.Whole.{units_of, WholeUpTo};
-ghost use Rattle.std.proofs.Common.{rules, arith};
 
 use crate::arithmetic::Arithmetic;
 
@@ -15,6 +14,10 @@ pub struct Double {
 }
 
 impl Arithmetic for Double {
+    ghost use Rattle.std.proofs.Common.{rules, lit≤};
+    ghost use Rattle.lengths.specs.Exact.{order_is_that_of_units};
+    ghost use Rattle.lengths.specs.Ordered.{total_over_units};
+
     const LARGEST: u64 = 1 << 40;
 
     ghost largest = { 2 ^ 40 };
@@ -23,11 +26,11 @@ impl Arithmetic for Double {
 
     ghost before = { λ x y. Ieee.lt x.units y.units };
 
-    ghost reaches = { first_of (Prim.search rules, Prim.grind (arith, Self.row.coded.inj)) };
+    ghost reaches = { Prim.search rules };
 
-    ghost ordered = { first_of (Prim.search rules, Prim.grind (arith, Self.row.coded.inj)) };
+    ghost ordered = { λ x y. order_is_that_of_units binary64 (2 ^ 40) (lit≤ tt) x.units y.units x.whole y.whole };
 
-    ghost total = { first_of (Prim.search rules, Prim.grind (arith, Self.row.coded.inj)) };
+    ghost total = { total_over_units (λ x. units_of x.units) (λ x y. Ieee.lt x.units y.units) (λ x y. order_is_that_of_units binary64 (2 ^ 40) (lit≤ tt) x.units y.units x.whole y.whole) };
 
     fn limit() -> u64 {
         Self::LARGEST

@@ -1,6 +1,6 @@
 use Rattle.std.proofs.Common.{◌^◌, lit≤}
 use lib.Ieee.{binary64}
-use Rattle.lengths.proofs.Exact.{difference_is_exact}
+use Rattle.lengths.specs.Exact.{difference_is_exact}
 use Rattle.lengths.proofs.double.difference.Goals as goal
 
 pub returns : goal.returns

@@ -1,6 +1,6 @@
 use Rattle.std.proofs.Common.{◌^◌, lit≤}
 use lib.Ieee.{binary64}
-use Rattle.lengths.proofs.Exact.{float_of_number}
+use Rattle.lengths.specs.Exact.{float_of_number}
 use Rattle.lengths.proofs.double.kept.Goals as goal
 
 pub returns : goal.returns
