@@ -62,9 +62,9 @@ value_at : (M a b k : ℕ) → value_in (close_at M a b k) ≡ distance M a b k
 value_at M a b zero = refl
 value_at M a b (suc k) = refl
 
-close_at : (M a b k : ℕ) → is_close (close_at M a b k) ≡ true
-close_at M a b zero = refl
-close_at M a b (suc k) = refl
+is_close_at : (M a b k : ℕ) → is_close (close_at M a b k) ≡ true
+is_close_at M a b zero = refl
+is_close_at M a b (suc k) = refl
 
 abbrev near : (M a b D : ℕ) → ℕ → Bool
 near M a b D k = ltb (distance M a b k) D
@@ -101,6 +101,6 @@ pub clear_answer : (M a b D n : ℕ) (e : Evidence) → Clear e ≡ answer M a b
 clear_answer M a b D n e c j h =
     let m = least (near M a b D) n in
     ⊎_elim
-    (λ (l : m < n). absurd (true≢false (sym (close_at M a b m) ∙ sym (ap is_close (c ∙ cond-true (ltb m n) _ _ (lt-ltb m n l))))))
+    (λ (l : m < n). absurd (true≢false (sym (is_close_at M a b m) ∙ sym (ap is_close (c ∙ cond-true (ltb m n) _ _ (lt-ltb m n l))))))
     (λ (l : n ≤ m). ltb-false _ _ (least_below (near M a b D) n j (omega arith)))
     (cases_lt m n)

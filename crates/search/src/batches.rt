@@ -14,18 +14,18 @@ pub(crate) fn steps_for(need: u64, by: u64) -> u64
 
 /// Whether the length has no units: then it is not more than itself less itself.
 fn is_nothing<A: Arithmetic>(length: A) -> bool
-    ensures tells_whether_it_has_units { result ≡ (units length == 0) }
+    ensures tells_whether_it_has_units { result ≡ (A.units length == 0) }
 {
     !length.minus(length).less(length)
 }
 
 /// Takes `part` off `length` as often as it goes, at most `most` times: how often, and what is left.
 pub(crate) fn take_off<A: Arithmetic>(length: A, part: A, most: u64) -> (u64, A)
-    requires carried { units length ≤ largest }
+    requires carried { A.units length ≤ A.largest }
     ensures at_most { result.0 ≤ most }
-    ensures it_goes { result.0 * units part ≤ units length }
-    ensures the_rest { units result.1 ≡ units length - result.0 * units part }
-    ensures no_more { (result.0 ≡ most) ⊎ (units length < result.0 * units part + units part) }
+    ensures it_goes { result.0 * A.units part ≤ A.units length }
+    ensures the_rest { A.units result.1 ≡ A.units length - result.0 * A.units part }
+    ensures no_more { (result.0 ≡ most) ⊎ (A.units length < result.0 * A.units part + A.units part) }
 {
     if is_nothing(part) {
         return (most, length);
@@ -43,23 +43,23 @@ pub(crate) fn take_off<A: Arithmetic>(length: A, part: A, most: u64) -> (u64, A)
 
 /// One part less, where the parts use up a longer length: it leaves that part.
 fn one_less<A: Arithmetic>(length: A, part: A, times: u64) -> u64
-    requires used_up { times * units part ≡ units length }
-    requires longer { units part < units length }
+    requires used_up { times * A.units part ≡ A.units length }
+    requires longer { A.units part < A.units length }
     ensures at_least_one { (1 ≤ result) × (result ≤ times) }
-    ensures leaves_a_part { (result * units part < units length) × (units part ≡ units length - result * units part) }
+    ensures leaves_a_part { (result * A.units part < A.units length) × (A.units part ≡ A.units length - result * A.units part) }
 {
     times - 1
 }
 
 /// Takes `part` off `length`, which is longer, as often as something is left, at most `most` times: how often, and what is left.
 pub(crate) fn shorten<A: Arithmetic>(length: A, part: A, most: u64) -> (u64, A)
-    requires carried { units length ≤ largest }
-    requires longer { units part < units length }
+    requires carried { A.units length ≤ A.largest }
+    requires longer { A.units part < A.units length }
     requires some { 1 ≤ most }
     ensures at_least_once { 1 ≤ result.0 }
     ensures at_most { result.0 ≤ most }
-    ensures something_is_left { result.0 * units part < units length }
-    ensures the_rest { units result.1 ≡ units length - result.0 * units part }
+    ensures something_is_left { result.0 * A.units part < A.units length }
+    ensures the_rest { A.units result.1 ≡ A.units length - result.0 * A.units part }
 {
     let (times, rest) = take_off(length, part, most);
     if is_nothing(rest) {
@@ -71,11 +71,11 @@ pub(crate) fn shorten<A: Arithmetic>(length: A, part: A, most: u64) -> (u64, A)
 
 /// At which step of length `part` what is left of `length` is first at most `d`, and how much less than `d` it then is.
 pub(crate) fn first_within<A: Arithmetic>(length: A, d: A, part: A) -> (u64, A)
-    requires longer { (units d < units length) × (units length ≤ 2 ^ 40) }
-    requires some { 0 < units part }
+    requires longer { (A.units d < A.units length) × (A.units length ≤ 2 ^ 40) }
+    requires some { 0 < A.units part }
     ensures at_least_one { 1 ≤ result.0 }
-    ensures within_by_then { units result.1 + units length ≡ units d + result.0 * units part }
-    ensures not_before { units result.1 < units part }
+    ensures within_by_then { A.units result.1 + A.units length ≡ A.units d + result.0 * A.units part }
+    ensures not_before { A.units result.1 < A.units part }
 {
     let (times, rest) = length.minus(d).divide(part);
     if is_nothing(rest) {

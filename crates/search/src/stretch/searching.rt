@@ -14,7 +14,7 @@ use lengths::arithmetic::Arithmetic;
 
 /// The place as evidence.
 fn evidence_at<A: Arithmetic>(s: Place<A>) -> Evidence
-    ensures the_numbers_of_the_place { result ≡ evidence_at (spot units s) }
+    ensures the_numbers_of_the_place { result ≡ evidence_at (spot A.units s) }
 {
     Evidence {
         u: s.u,
@@ -27,8 +27,8 @@ fn evidence_at<A: Arithmetic>(s: Place<A>) -> Evidence
 
 /// The place over one point, the point 0 itself.
 fn first_place<A: Arithmetic>(stretch: Stretch) -> Place<A>
-    requires carried { stretch.modulus.value ≤ largest }
-    ensures the_first_configuration { spot units result ≡ started stretch.modulus.value stretch.slope stretch.offset }
+    requires carried { stretch.modulus.value ≤ A.largest }
+    ensures the_first_configuration { spot A.units result ≡ started stretch.modulus.value stretch.slope stretch.offset }
 {
     Place {
         u: 1,
@@ -42,10 +42,10 @@ fn first_place<A: Arithmetic>(stretch: Stretch) -> Place<A>
 
 /// The place over two points, or the hit of the point 1.
 fn second_place<A: Arithmetic>(stretch: Stretch) -> Turn<A>
-    requires carried { stretch.modulus.value ≤ largest }
+    requires carried { stretch.modulus.value ≤ A.largest }
     requires two_points { 2 ≤ stretch.points }
     requires zero_is_not_close { stretch.threshold ≤ stretch.offset }
-    ensures hits_or_walks { Opened units stretch result }
+    ensures hits_or_walks { Opened A.units stretch result }
 {
     let s = first_place::<A>(stretch);
     if stretch.offset < stretch.slope {
@@ -68,11 +68,11 @@ fn second_place<A: Arithmetic>(stretch: Stretch) -> Turn<A>
 
 /// One batch of steps, of the longer length.
 fn walk_on<A: Arithmetic>(stretch: Stretch, near: A, s: Place<A>) -> Turn<A>
-    requires walks { WalksAlong stretch (spot units s) }
+    requires walks { WalksAlong stretch (spot A.units s) }
     requires unfinished { s.u + s.v < stretch.points }
-    requires carried { stretch.modulus.value ≤ largest }
-    requires near_is_the_threshold { units near ≡ stretch.threshold }
-    ensures hits_or_goes_on { Turned units stretch (spot units s) result }
+    requires carried { stretch.modulus.value ≤ A.largest }
+    requires near_is_the_threshold { A.units near ≡ stretch.threshold }
+    ensures hits_or_goes_on { Turned A.units stretch (spot A.units s) result }
 {
     if s.y.less(s.x) {
         shorten_x(stretch, near, s)
@@ -83,7 +83,7 @@ fn walk_on<A: Arithmetic>(stretch: Stretch, near: A, s: Place<A>) -> Turn<A>
 
 /// The least close index with its evidence, or the evidence that there is none.
 fn least_close<A: Arithmetic>(stretch: Stretch) -> Answer
-    requires carried { stretch.modulus.value ≤ largest }
+    requires carried { stretch.modulus.value ≤ A.largest }
     ensures the_answer { result ≡ answer stretch.modulus.value stretch.slope stretch.offset stretch.threshold stretch.points }
 {
     if stretch.offset < stretch.threshold {

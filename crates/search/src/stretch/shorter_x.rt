@@ -10,8 +10,8 @@ use lengths::arithmetic::Arithmetic;
 
 /// The evidence with the lengths of `s` after `t` steps.
 fn evidence_after<A: Arithmetic>(s: Place<A>, t: u64) -> Evidence
-    requires fits { (t * units s.y ≤ units s.x) × (s.v + t * s.u < 2 ^ 32) }
-    ensures the_lengths_after_t_steps { result ≡ shorter_x (spot units s) t }
+    requires fits { (t * A.units s.y ≤ A.units s.x) × (s.v + t * s.u < 2 ^ 32) }
+    ensures the_lengths_after_t_steps { result ≡ shorter_x (spot A.units s) t }
 {
     let x = s.x.to_units();
     let y = s.y.to_units();
@@ -27,12 +27,12 @@ fn evidence_after<A: Arithmetic>(s: Place<A>, t: u64) -> Evidence
 /// Shortens x by y as often as something is left, or until there are points enough. The point below the offset moves where the offset
 /// lies in an x gap that gets too short for it, at the i-th step, by v indices then.
 pub(crate) fn shorten_x<A: Arithmetic>(stretch: Stretch, near: A, s: Place<A>) -> Turn<A>
-    requires walks { WalksAlong stretch (spot units s) }
+    requires walks { WalksAlong stretch (spot A.units s) }
     requires unfinished { s.u + s.v < stretch.points }
-    requires carried { stretch.modulus.value ≤ largest }
-    requires near_is_the_threshold { units near ≡ stretch.threshold }
-    requires x_is_longer { units s.y < units s.x }
-    ensures hits_or_goes_on { Turned units stretch (spot units s) result }
+    requires carried { stretch.modulus.value ≤ A.largest }
+    requires near_is_the_threshold { A.units near ≡ stretch.threshold }
+    requires x_is_longer { A.units s.y < A.units s.x }
+    ensures hits_or_goes_on { Turned A.units stretch (spot A.units s) result }
 {
     let most = steps_for(stretch.points - (s.u + s.v), s.u);
     let (q, x) = shorten(s.x, s.y, most);

@@ -11,8 +11,8 @@ use lengths::arithmetic::Arithmetic;
 
 /// The evidence with the lengths of `s` after `t` steps, at the point `r`.
 fn evidence_after<A: Arithmetic>(s: Place<A>, t: u64, r: u64) -> Evidence
-    requires fits { (t * units s.x ≤ units s.y) × (s.u + t * s.v < 2 ^ 32) }
-    ensures the_lengths_after_t_steps { result ≡ shorter_y (spot units s) t r }
+    requires fits { (t * A.units s.x ≤ A.units s.y) × (s.u + t * s.v < 2 ^ 32) }
+    ensures the_lengths_after_t_steps { result ≡ shorter_y (spot A.units s) t r }
 {
     let x = s.x.to_units();
     let y = s.y.to_units();
@@ -27,20 +27,20 @@ fn evidence_after<A: Arithmetic>(s: Place<A>, t: u64, r: u64) -> Evidence
 
 /// How many moves by `x` take `d` down to the threshold, and not below it.
 fn moves_before<A: Arithmetic>(d: A, x: A, threshold: u64) -> u64
-    requires above { threshold ≤ units d }
-    requires some { 0 < units x }
-    ensures not_below_yet { threshold + result * units x ≤ units d }
-    ensures below_with_one_more { units d < threshold + result * units x + units x }
+    requires above { threshold ≤ A.units d }
+    requires some { 0 < A.units x }
+    ensures not_below_yet { threshold + result * A.units x ≤ A.units d }
+    ensures below_with_one_more { A.units d < threshold + result * A.units x + A.units x }
 {
     (d.to_units() - threshold) / x.to_units()
 }
 
 /// The hit of the move after the g-th, with the lengths after `i` steps.
 fn hit_after<A: Arithmetic>(s: Place<A>, g: u64, i: u64) -> Turn<A>
-    requires within_the_gap { ((g + 1) * units s.x ≤ units s.d) × (units s.d ≤ units s.y) }
+    requires within_the_gap { ((g + 1) * A.units s.x ≤ A.units s.d) × (A.units s.d ≤ A.units s.y) }
     requires small { (s.u ≤ s.r) × ((s.r + (g + 1) * s.v < 2 ^ 32) × (g < 2 ^ 32)) }
     requires steps { i ≤ g + 1 }
-    ensures the_next_point_with_evidence { result ≡ Hit (s.r + (g + 1) * s.v) (units s.d - (g + 1) * units s.x) (shorter_y (spot units s) i (s.r + g * s.v)) }
+    ensures the_next_point_with_evidence { result ≡ Hit (s.r + (g + 1) * s.v) (A.units s.d - (g + 1) * A.units s.x) (shorter_y (spot A.units s) i (s.r + g * s.v)) }
 {
     Turn::Hit {
         index: s.r + (g + 1) * s.v,
@@ -52,12 +52,12 @@ fn hit_after<A: Arithmetic>(s: Place<A>, g: u64, i: u64) -> Turn<A>
 /// Shortens y by x as often as it goes, or until there are points enough. Where the offset lies in a y gap, the point below it moves by x
 /// with each step, as long as it stays below and there are points.
 pub(crate) fn shorten_y<A: Arithmetic>(stretch: Stretch, near: A, s: Place<A>) -> Turn<A>
-    requires walks { WalksAlong stretch (spot units s) }
+    requires walks { WalksAlong stretch (spot A.units s) }
     requires unfinished { s.u + s.v < stretch.points }
-    requires carried { stretch.modulus.value ≤ largest }
-    requires near_is_the_threshold { units near ≡ stretch.threshold }
-    requires x_is_no_longer { units s.x ≤ units s.y }
-    ensures hits_or_goes_on { Turned units stretch (spot units s) result }
+    requires carried { stretch.modulus.value ≤ A.largest }
+    requires near_is_the_threshold { A.units near ≡ stretch.threshold }
+    requires x_is_no_longer { A.units s.x ≤ A.units s.y }
+    ensures hits_or_goes_on { Turned A.units stretch (spot A.units s) result }
 {
     let most = steps_for(stretch.points - (s.u + s.v), s.v);
     let (q, y) = take_off(s.y, s.x, most);

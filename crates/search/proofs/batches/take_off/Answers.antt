@@ -15,7 +15,7 @@ pub overflow_mul-most : goal.overflow_mul-most
 overflow_mul-most g c =
     let f = fewer_fit _ _ _ _ (some_units _ c.if-is_nothing.ensures.tells_whether_it_has_units) c.divide-times.ensures.quotient_of_the_units c.if-times-most.false in
     let e = ap (λ n. c.args.most * n) c.to_units-else-times-most.ensures.tells_the_units in
-    omega (arith, f, e, c.to_units.type-inv, c.to_units.ensures.tells_the_units)
+    omega (arith, f, e, c.to_units.type_inv, c.to_units.ensures.tells_the_units)
 
 pub overflow_sub-to_units : goal.overflow_sub-to_units
 overflow_sub-to_units g c =
