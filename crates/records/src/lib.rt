@@ -1,3 +1,4 @@
+#![tactic(auto)]
 // The records of a sheet: how they stand in its bytes, and what they say.
 pub mod clean;
 pub mod fault;
