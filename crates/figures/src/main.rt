@@ -1,3 +1,4 @@
+#![tactic(auto)]
 //! Prints worked figures: searches and gaps, and the sheets of the table on standard input, each judged.
 mod assignments;
 mod searches;

@@ -1,3 +1,4 @@
+#![tactic(auto)]
 //! From the bytes of one line of input to the bytes that are printed for it.
 pub mod book;
 pub mod hit;

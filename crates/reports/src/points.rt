@@ -18,7 +18,7 @@ use scan::next_close;
 
 /// Looks again and again behind the close index that was found last.
 fn gather<C: Curve>(curve: &C, threshold: u64) -> Result<Book, LineRefusal>
-    ensures holds_the_close_points { held_by result ≡ booked (hits_of (meaning curve.now) threshold) }
+    ensures holds_the_close_points { held_by result ≡ booked (hits_of (C.meaning curve.now) threshold) }
     ensures values_fit { IfOk result (λ b. All (λ h. h.value < 2 ^ 40) (held b)) }
 {
     let count = curve.count();

@@ -16,10 +16,10 @@ pub(crate) fn step_along<A: Arithmetic, C: Curve>(
     place: u32,
     end: u32,
 ) -> Option<Step>
-    ensures is_the_step_along_the_line { result ≡ step_of (meaning curve.now) threshold place end }
-    ensures stays_within_the_range { StaysWithin (meaning curve.now) place end result }
-    ensures passes_over_no_close_index { PassesNoneClose (meaning curve.now) threshold place result }
-    ensures without_error_a_candidate_is_close { CandidateIsClose (meaning curve.now) threshold place end result }
+    ensures is_the_step_along_the_line { result ≡ step_of (C.meaning curve.now) threshold place end }
+    ensures stays_within_the_range { StaysWithin (C.meaning curve.now) place end result }
+    ensures passes_over_no_close_index { PassesNoneClose (C.meaning curve.now) threshold place result }
+    ensures without_error_a_candidate_is_close { CandidateIsClose (C.meaning curve.now) threshold place end result }
 {
     match line_window(curve, place, end.saturating_sub(place), threshold) {
         Some((line, window)) => {

@@ -1,3 +1,4 @@
+#![tactic(auto)]
 // The close indices of any curve, found along its lines, in any arithmetic.
 ghost use Rattle.scan.specs.Nexts.{NextClose};
 ghost use Rattle.scan.specs.Passed.{CandidateIsClose, PassesNoneClose, StaysWithin};
@@ -20,10 +21,10 @@ pub fn step<A: Arithmetic, C: Curve>(
     place: u32,
     end: u32,
 ) -> Option<Step>
-    ensures is_the_step_along_the_line { result ≡ step_of (meaning curve.now) threshold place end }
-    ensures stays_within_the_range { StaysWithin (meaning curve.now) place end result }
-    ensures passes_over_no_close_index { PassesNoneClose (meaning curve.now) threshold place result }
-    ensures without_error_a_candidate_is_close { CandidateIsClose (meaning curve.now) threshold place end result }
+    ensures is_the_step_along_the_line { result ≡ step_of (C.meaning curve.now) threshold place end }
+    ensures stays_within_the_range { StaysWithin (C.meaning curve.now) place end result }
+    ensures passes_over_no_close_index { PassesNoneClose (C.meaning curve.now) threshold place result }
+    ensures without_error_a_candidate_is_close { CandidateIsClose (C.meaning curve.now) threshold place end result }
 {
     along::step_along::<A, C>(curve, threshold, place, end)
 }
@@ -35,7 +36,7 @@ pub fn next_close<A: Arithmetic, C: Curve>(
     from: u32,
     to: u32,
 ) -> Option<u32>
-    ensures is_the_least_close_index_of_the_range { NextClose (meaning curve.now) threshold from to result }
+    ensures is_the_least_close_index_of_the_range { NextClose (C.meaning curve.now) threshold from to result }
 {
     nexts::first_close::<A, C>(curve, threshold, from, to)
 }

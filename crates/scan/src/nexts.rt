@@ -9,7 +9,7 @@ use lengths::arithmetic::Arithmetic;
 
 /// Whether the curve has the index and its value is below the threshold.
 fn is_close<C: Curve>(curve: &C, threshold: u64, index: u32) -> bool
-    ensures tells_whether_it_is_close { result ≡ is_close (meaning curve.now) threshold index }
+    ensures tells_whether_it_is_close { result ≡ is_close (C.meaning curve.now) threshold index }
 {
     match curve.value(index) {
         Some(value) => value < threshold,
@@ -24,7 +24,7 @@ pub(crate) fn first_close<A: Arithmetic, C: Curve>(
     from: u32,
     to: u32,
 ) -> Option<u32>
-    ensures is_the_least_close_index_of_the_range { NextClose (meaning curve.now) threshold from to result }
+    ensures is_the_least_close_index_of_the_range { NextClose (C.meaning curve.now) threshold from to result }
 {
     let end = to.min(curve.count());
     let mut place = from;

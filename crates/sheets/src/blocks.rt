@@ -7,7 +7,7 @@ use curves::curve::Curve;
 
 /// The first index of the block.
 pub fn start_of<C: Curve>(curve: &C, assignment: Assignment) -> u32
-    ensures is_the_first_index { result ≡ start_of (meaning curve.now) assignment }
+    ensures is_the_first_index { result ≡ start_of (C.meaning curve.now) assignment }
 {
     let first = assignment.block as u64 * assignment.block_length as u64;
     first.min(curve.count() as u64) as u32
@@ -15,7 +15,7 @@ pub fn start_of<C: Curve>(curve: &C, assignment: Assignment) -> u32
 
 /// The index behind the last one of the block.
 pub fn stop_of<C: Curve>(curve: &C, assignment: Assignment) -> u32
-    ensures is_the_index_behind_the_last { result ≡ stop_of (meaning curve.now) assignment }
+    ensures is_the_index_behind_the_last { result ≡ stop_of (C.meaning curve.now) assignment }
 {
     let length = assignment.block_length as u64;
     let behind = assignment.block as u64 * length + length;

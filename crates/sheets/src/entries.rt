@@ -38,7 +38,7 @@ fn is_right_end(next: u32, stop: u32, records: u32, behind: usize, count: u32) -
 
 /// Whether a head is the one for this survey, block, modulus and threshold.
 fn is_the_head<C: Curve>(curve: &C, assignment: Assignment, heading: Heading) -> bool
-    ensures is_not_another { not result ≡ is_not_the_head (meaning curve.now) assignment (head heading) }
+    ensures is_not_another { not result ≡ is_not_the_head (C.meaning curve.now) assignment (head heading) }
 {
     heading.survey == assignment.survey
         && heading.block == assignment.block
@@ -54,9 +54,9 @@ fn is_vouched<C: Curve>(
     line: Line,
     window: Window,
 ) -> bool
-    requires the_line_there { line ≡ (meaning curve.now).line stretch.from stretch.points }
-    requires the_window_of_the_line { window ≡ window_of (meaning curve.now).modulus line threshold }
-    ensures is_the_test_of_the_numbers { result ≡ vouched (meaning curve.now) threshold stretch.from stretch.points stretch.evidence }
+    requires the_line_there { line ≡ (C.meaning curve.now).line stretch.from stretch.points }
+    requires the_window_of_the_line { window ≡ window_of (C.meaning curve.now).modulus line threshold }
+    ensures is_the_test_of_the_numbers { result ≡ vouched (C.meaning curve.now) threshold stretch.from stretch.points stretch.evidence }
 {
     vouches(
         curve.modulus(),
@@ -76,8 +76,8 @@ fn clean_fault<C: Curve>(
     stop: u32,
     stretch: CleanStretch,
 ) -> Option<Fault>
-    requires stop_is_within { stop ≤ (meaning curve.now).count }
-    ensures is_the_first_of_three { result ≡ clean_fault (meaning curve.now) threshold next stop stretch }
+    requires stop_is_within { stop ≤ (C.meaning curve.now).count }
+    ensures is_the_first_of_three { result ≡ clean_fault (C.meaning curve.now) threshold next stop stretch }
 {
     if !is_in_place(next, stop, stretch.from, stretch.points) {
         return Some(Fault::Place);
@@ -98,8 +98,8 @@ fn clean_fault<C: Curve>(
 
 /// The first fault of a hit or a miss in its place and value, if it has one there.
 fn point_fault<C: Curve>(curve: &C, next: u32, stop: u32, point: Point) -> Option<Fault>
-    requires stop_is_within { stop ≤ (meaning curve.now).count }
-    ensures is_the_first_of_two { result ≡ point_fault (meaning curve.now) next stop point }
+    requires stop_is_within { stop ≤ (C.meaning curve.now).count }
+    ensures is_the_first_of_two { result ≡ point_fault (C.meaning curve.now) next stop point }
 {
     if !is_in_place(next, stop, point.index, 1) {
         return Some(Fault::Place);
@@ -125,8 +125,8 @@ pub(crate) fn fault_of<C: Curve>(
     behind: usize,
     record: Record<'_>,
 ) -> Option<Fault>
-    requires stop_is_the_blocks { stop ≡ stop_of (meaning curve.now) assignment }
-    ensures is_its_first_fault { result ≡ first_fault (meaning curve.now) assignment (going progress.next progress.records) behind (says «record».entry) }
+    requires stop_is_the_blocks { stop ≡ stop_of (C.meaning curve.now) assignment }
+    ensures is_its_first_fault { result ≡ first_fault (C.meaning curve.now) assignment (going progress.next progress.records) behind (says «record».entry) }
 {
     let next = progress.next;
     match record {
@@ -177,7 +177,7 @@ pub(crate) fn points_of(record: Record<'_>) -> u32
 
 /// Whether a record is the head that is due.
 pub(crate) fn opens<C: Curve>(curve: &C, assignment: Assignment, record: Record<'_>) -> bool
-    ensures is_not_another { not result ≡ is_not_the_head (meaning curve.now) assignment (says «record».entry) }
+    ensures is_not_another { not result ≡ is_not_the_head (C.meaning curve.now) assignment (says «record».entry) }
 {
     match record {
         Record::Head(body) => is_the_head(curve, assignment, Heading::read(body)),

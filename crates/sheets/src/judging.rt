@@ -32,7 +32,7 @@ fn faulty(fault: Fault, at: usize) -> SheetRefusal
 
 /// Reads the head, and answers the byte behind it or says what is wrong.
 fn open<C: Curve>(curve: &C, assignment: Assignment, sheet: &[u8]) -> Result<usize, SheetRefusal>
-    ensures leaves_the_judgement_to_the_rest { Opened (meaning curve.now) assignment sheet.now result }
+    ensures leaves_the_judgement_to_the_rest { Opened (C.meaning curve.now) assignment sheet.now result }
 {
     match record_at(sheet, 0) {
         Err(fault) => Err(faulty(Fault::Record(fault), 0)),
@@ -70,10 +70,10 @@ fn judge_one<C: Curve>(
     sheet: &[u8],
     at: usize,
 ) -> Result<Turn, SheetRefusal>
-    requires stop_is_the_blocks { stop ≡ stop_of (meaning curve.now) assignment }
+    requires stop_is_the_blocks { stop ≡ stop_of (C.meaning curve.now) assignment }
     requires within { (at ≤ length sheet.now) × (length sheet.now ≤ 2 ^ 22) }
     requires not_beyond { progress.next ≤ stop }
-    ensures leaves_the_judgement_to_the_rest { Turned (meaning curve.now) assignment sheet.now at progress.next progress.records result }
+    ensures leaves_the_judgement_to_the_rest { Turned (C.meaning curve.now) assignment sheet.now at progress.next progress.records result }
 {
     match record_at(sheet, at) {
         Err(fault) => Err(faulty(Fault::Record(fault), at)),
@@ -104,7 +104,7 @@ fn judge_rest<C: Curve>(
     places: &mut [u32; 512],
 ) -> Result<u32, SheetRefusal>
     requires within { (from ≤ length sheet.now) × ((length sheet.now ≤ 2 ^ 22) × (1 ≤ from)) }
-    ensures tells_the_judgement { Told (judged_behind (meaning curve.now) assignment sheet.now from) places.old places.new result }
+    ensures tells_the_judgement { Told (judged_behind (C.meaning curve.now) assignment sheet.now from) places.old places.new result }
 {
     let stop = stop_of(curve, assignment);
     let mut next = start_of(curve, assignment);
@@ -137,8 +137,8 @@ fn judge_whole<C: Curve>(
     sheet: &[u8],
     hits: &mut [u32; 512],
 ) -> Result<u32, SheetRefusal>
-    ensures is_the_verdict { result ≡ counted (verdict (meaning curve.now) assignment sheet.now) }
-    ensures lays_the_hits_or_keeps_the_places { hits.new ≡ lent (verdict (meaning curve.now) assignment sheet.now) hits.old }
+    ensures is_the_verdict { result ≡ counted (verdict (C.meaning curve.now) assignment sheet.now) }
+    ensures lays_the_hits_or_keeps_the_places { hits.new ≡ lent (verdict (C.meaning curve.now) assignment sheet.now) hits.old }
 {
     if sheet.len() > 1 << 22 {
         return Err(SheetRefusal::TooLong);
@@ -157,12 +157,12 @@ pub(crate) fn judge_lawfully<C: Curve>(
     sheet: &[u8],
     hits: &mut [u32; 512],
 ) -> Result<u32, SheetRefusal>
-    ensures is_the_verdict { result ≡ counted (verdict (meaning curve.now) assignment sheet.now) }
-    ensures lays_the_hits_or_keeps_the_places { hits.new ≡ lent (verdict (meaning curve.now) assignment sheet.now) hits.old }
-    ensures hits_are_the_close_indices_of_the_block { HitsAreTheCloseIndices (meaning curve.now) assignment }
-    ensures clean_records_pass_exactly_where_none_is_close { CleanRecordsPassExactlyWhereNoneIsClose (meaning curve.now) }
-    ensures passes_exactly_when_the_rules_are_kept { PassesExactlyWhenTheRulesAreKept (meaning curve.now) assignment }
-    ensures a_fault_is_the_least_where_all_before_is_in_order { AFaultIsTheLeastWhereAllBeforeIsInOrder (meaning curve.now) assignment }
+    ensures is_the_verdict { result ≡ counted (verdict (C.meaning curve.now) assignment sheet.now) }
+    ensures lays_the_hits_or_keeps_the_places { hits.new ≡ lent (verdict (C.meaning curve.now) assignment sheet.now) hits.old }
+    ensures hits_are_the_close_indices_of_the_block { HitsAreTheCloseIndices (C.meaning curve.now) assignment }
+    ensures clean_records_pass_exactly_where_none_is_close { CleanRecordsPassExactlyWhereNoneIsClose (C.meaning curve.now) }
+    ensures passes_exactly_when_the_rules_are_kept { PassesExactlyWhenTheRulesAreKept (C.meaning curve.now) assignment }
+    ensures a_fault_is_the_least_where_all_before_is_in_order { AFaultIsTheLeastWhereAllBeforeIsInOrder (C.meaning curve.now) assignment }
 {
     judge_whole(curve, assignment, sheet, hits)
 }

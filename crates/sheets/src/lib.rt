@@ -1,3 +1,4 @@
+#![tactic(auto)]
 // The judge of sheets. A sheet is what a hired house sends back for a block of a survey: its hits, and records that call the rest clean.
 ghost use Rattle.sheets.specs.Laws.{AFaultIsTheLeastWhereAllBeforeIsInOrder, CleanRecordsPassExactlyWhereNoneIsClose, HitsAreTheCloseIndices, PassesExactlyWhenTheRulesAreKept};
 ghost use Rattle.sheets.specs.Verdict.{counted, lent, verdict};
@@ -24,12 +25,12 @@ pub fn judge<C: Curve>(
     sheet: &[u8],
     hits: &mut [u32; 512],
 ) -> Result<u32, SheetRefusal>
-    ensures is_the_verdict { result ≡ counted (verdict (meaning curve.now) assignment sheet.now) }
-    ensures lays_the_hits_or_keeps_the_places { hits.new ≡ lent (verdict (meaning curve.now) assignment sheet.now) hits.old }
-    ensures hits_are_the_close_indices_of_the_block { HitsAreTheCloseIndices (meaning curve.now) assignment }
-    ensures clean_records_pass_exactly_where_none_is_close { CleanRecordsPassExactlyWhereNoneIsClose (meaning curve.now) }
-    ensures passes_exactly_when_the_rules_are_kept { PassesExactlyWhenTheRulesAreKept (meaning curve.now) assignment }
-    ensures a_fault_is_the_least_where_all_before_is_in_order { AFaultIsTheLeastWhereAllBeforeIsInOrder (meaning curve.now) assignment }
+    ensures is_the_verdict { result ≡ counted (verdict (C.meaning curve.now) assignment sheet.now) }
+    ensures lays_the_hits_or_keeps_the_places { hits.new ≡ lent (verdict (C.meaning curve.now) assignment sheet.now) hits.old }
+    ensures hits_are_the_close_indices_of_the_block { HitsAreTheCloseIndices (C.meaning curve.now) assignment }
+    ensures clean_records_pass_exactly_where_none_is_close { CleanRecordsPassExactlyWhereNoneIsClose (C.meaning curve.now) }
+    ensures passes_exactly_when_the_rules_are_kept { PassesExactlyWhenTheRulesAreKept (C.meaning curve.now) assignment }
+    ensures a_fault_is_the_least_where_all_before_is_in_order { AFaultIsTheLeastWhereAllBeforeIsInOrder (C.meaning curve.now) assignment }
 {
     judging::judge_lawfully(curve, assignment, sheet, hits)
 }

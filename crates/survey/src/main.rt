@@ -1,3 +1,4 @@
+#![tactic(auto)]
 //! Reads lines of curves from standard input, and prints the close points of each.
 mod lines;
 

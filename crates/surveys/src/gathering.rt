@@ -15,8 +15,8 @@ pub(crate) fn gather<A: Arithmetic, C: Curve>(
     to: u32,
     places: &mut [u32; 512],
 ) -> Option<u32>
-    requires within { to ≤ (meaning curve.now).count }
-    ensures has_them_all_or_they_are_too_many { Gathered (close_between (meaning curve.now) threshold from to) places.new result }
+    requires within { to ≤ (C.meaning curve.now).count }
+    ensures has_them_all_or_they_are_too_many { Gathered (close_between (C.meaning curve.now) threshold from to) places.new result }
 {
     let mut count: u32 = 0;
     let mut next = from;

@@ -1,3 +1,4 @@
+#![tactic(auto)]
 // Surveys: their blocks, tickets and book, and what their keeper can say of them.
 mod act;
 mod gathering;

@@ -27,7 +27,7 @@ use sheets::judge;
 impl<C: Curve> Survey<C> {
     /// Issues a block that waits: a ticket for it goes out.
     pub fn issue(&mut self, block: u32) -> Result<Ticket, IssueRefusal>
-        ensures does_as_the_ledger_says { Stepped (view meaning self.old) (issue block) (issue_answer result) (view meaning self.new) }
+        ensures does_as_the_ledger_says { Stepped (view C.meaning self.old) (issue block) (issue_answer result) (view C.meaning self.new) }
         ensures refusal_keeps_the_survey { Refuses (issue_answer result) → self.new ≡ self.old }
     {
         match self.table.after(block, Act::Issue) {
@@ -51,7 +51,7 @@ impl<C: Curve> Survey<C> {
 
     /// Takes a ticket back unworked: its block waits again.
     pub fn give_back(&mut self, ticket: Ticket) -> Result<(), (GiveBackRefusal, Ticket)>
-        ensures does_as_the_ledger_says { Stepped (view meaning self.old) (give_back ticket) (give_back_answer result) (view meaning self.new) }
+        ensures does_as_the_ledger_says { Stepped (view C.meaning self.old) (give_back ticket) (give_back_answer result) (view C.meaning self.new) }
         ensures refusal_keeps_the_survey { Refuses (give_back_answer result) → self.new ≡ self.old }
     {
         match self.after(&ticket, Act::GiveBack) {
@@ -79,7 +79,7 @@ impl<C: Curve> Survey<C> {
 
     /// Finds the close indices of a block along the curve's lines; none where they are more than 512.
     fn close_run<A: Arithmetic>(&self, block: u32, places: &mut [u32; 512]) -> Option<u32>
-        ensures has_them_all_or_they_are_too_many { Gathered (close_in (meaning self.now.curve) (ledger_of self.now.table) block) places.new result }
+        ensures has_them_all_or_they_are_too_many { Gathered (close_in (C.meaning self.now.curve) (ledger_of self.now.table) block) places.new result }
     {
         let asked = self.asked(block);
         let from = start_of(&self.curve, asked);
@@ -91,8 +91,8 @@ impl<C: Curve> Survey<C> {
     fn enter_run(&mut self, block: u32, count: u32, places: &[u32; 512]) -> bool
         requires there { block < self.old.table.blocks }
         requires not_settled { is_settled (slice_index_or (states_of self.old.table) block Waiting) ≡ false }
-        requires the_close_indices { Laid_out (close_in (meaning self.old.curve) (ledger_of self.old.table) block) count places.now }
-        ensures enters_where_there_is_room { Entered (meaning self.old.curve) self.old.table block self.new.table result }
+        requires the_close_indices { Laid_out (close_in (C.meaning self.old.curve) (ledger_of self.old.table) block) count places.now }
+        ensures enters_where_there_is_room { Entered (C.meaning self.old.curve) self.old.table block self.new.table result }
         ensures keeps_curve_and_number { (self.new.curve ≡ self.old.curve) × (self.new.number ≡ self.old.number) }
     {
         if count as u64 + self.table.count() as u64 > 512 {
@@ -104,7 +104,7 @@ impl<C: Curve> Survey<C> {
 
     /// Finds the close indices of a ticket's block and books them.
     pub fn work<A: Arithmetic>(&mut self, ticket: Ticket) -> Result<(), (WorkRefusal, Ticket)>
-        ensures does_as_the_ledger_says { Stepped (view meaning self.old) (work ticket largest) (work_answer result) (view meaning self.new) }
+        ensures does_as_the_ledger_says { Stepped (view C.meaning self.old) (work ticket A.largest) (work_answer result) (view C.meaning self.new) }
         ensures refusal_keeps_the_survey { Refuses (work_answer result) → self.new ≡ self.old }
     {
         if self.after(&ticket, Act::Work).is_none() {
@@ -124,7 +124,7 @@ impl<C: Curve> Survey<C> {
 
     /// Judges a sheet for a ticket's block and books its hits.
     pub fn settle(&mut self, ticket: Ticket, sheet: &[u8]) -> Result<(), (SettleRefusal, Ticket)>
-        ensures does_as_the_ledger_says { Stepped (view meaning self.old) (settle ticket sheet.now) (settle_answer result) (view meaning self.new) }
+        ensures does_as_the_ledger_says { Stepped (view C.meaning self.old) (settle ticket sheet.now) (settle_answer result) (view C.meaning self.new) }
         ensures refusal_keeps_the_survey { Refuses (settle_answer result) → self.new ≡ self.old }
     {
         if self.after(&ticket, Act::Settle).is_none() {
@@ -146,7 +146,7 @@ impl<C: Curve> Survey<C> {
 
     /// Takes a settled block's indices out of the book, and lets it wait again.
     pub fn recall(&mut self, block: u32) -> Result<(), RecallRefusal>
-        ensures does_as_the_ledger_says { Stepped (view meaning self.old) (recall block) (recall_answer result) (view meaning self.new) }
+        ensures does_as_the_ledger_says { Stepped (view C.meaning self.old) (recall block) (recall_answer result) (view C.meaning self.new) }
         ensures refusal_keeps_the_survey { Refuses (recall_answer result) → self.new ≡ self.old }
     {
         match self.table.after(block, Act::Recall) {

@@ -60,6 +60,6 @@ impl<C: Curve> Survey<C> {
 
     /// Says what the keeper of a survey over this curve and with this number can say of every history of its calls, at every moment.
     pub fn keeper_statement(&self)
-        ensures every_answer_is_the_ledgers_and_the_book_is_exact { Statement (meaning self.now.curve) self.now.number }
+        ensures every_answer_is_the_ledgers_and_the_book_is_exact { Statement (C.meaning self.now.curve) self.now.number }
     {}
 }

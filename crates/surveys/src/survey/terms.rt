@@ -29,7 +29,7 @@ impl<C: Curve> Survey<C> {
     /// A survey of a curve, with the threshold 0, blocks of 4,096 indices that all wait, and nothing booked.
     pub fn new(curve: C, number: u32) -> Survey<C>
         ensures of_this_curve_and_number { (result.curve ≡ curve) × (result.number ≡ number) }
-        ensures starts_fresh { Fresh (view meaning result) }
+        ensures starts_fresh { Fresh (view C.meaning result) }
     {
         let blocks = block_count(curve.count(), 4096) as u32;
         Survey {
@@ -41,7 +41,7 @@ impl<C: Curve> Survey<C> {
 
     /// Sets the threshold and the block length, where every block waits.
     pub fn set_terms(&mut self, threshold: u64, block_length: u32) -> Result<(), TermsRefusal>
-        ensures does_as_the_ledger_says { Stepped (view meaning self.old) (terms threshold block_length) (terms_answer result) (view meaning self.new) }
+        ensures does_as_the_ledger_says { Stepped (view C.meaning self.old) (terms threshold block_length) (terms_answer result) (view C.meaning self.new) }
         ensures refusal_keeps_the_survey { Refuses (terms_answer result) → self.new ≡ self.old }
     {
         if !self.table.all_wait() {
