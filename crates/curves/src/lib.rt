@@ -1,3 +1,4 @@
+#![tactic(auto)]
 // Curves over the grid: their values, and the lines that stand for stretches of them.
 ghost use Rattle.curves.specs.Offsets.{offset_answer};
 ghost use Rattle.curves.specs.Windows.{CloseAreCandidates, CutLosesNothing, DistancesAreValues, WhereAnswered, WithinLimits, line_window_of};

@@ -1,3 +1,4 @@
+#![tactic(auto)]
 // The search for the first point of a line that comes too near the grid, and the evidence that none does.
 ghost use Rattle.search.specs.Answers.{searched};
 ghost use Rattle.std.specs.Prelude.{◌≡◌};
