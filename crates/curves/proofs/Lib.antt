@@ -1,4 +1,3 @@
 pub mod CloseIndices
-pub mod ListedFacts
 pub mod Questions
 pub mod WindowLaws

@@ -1,10 +1,10 @@
 -- The laws of windows, from a curve's facts alone.
-use Rattle.std.proofs.Common.{◌≡◌, ℕ, ◌+◌, ◌-◌, ◌*◌, ◌<◌, ◌≤◌, min, true, leb, ◌↔◌, ℤ, pos, ◌+ℤ◌, ◌-ℤ◌, Some, sym, refl, ap, ◌∙◌, subst, mod-lt, arith, le-leb}
+use Rattle.std.proofs.Common.{◌≡◌, ℕ, ◌+◌, ◌-◌, ◌*◌, ◌<◌, ◌≤◌, true, leb, pos, ◌+ℤ◌, ◌-ℤ◌, Some, sym, refl, ap, ◌∙◌, subst, mod-lt, arith, le-leb}
 use Rattle.std.proofs.lemmas.Int.{ints}
 use Rattle.grid.specs.Residue.{residue}
 use Rattle.grid.proofs.Congruence.{residue_below}
-use Rattle.curves.specs.Meaning.{Meaning, Facts, LineFacts, line_of}
-use Rattle.curves.specs.Windows.{Close, window_of, window_distance, WithinLimits, CutLosesNothing, CloseAreCandidates, DistancesAreValues, line_window_of}
+use Rattle.curves.specs.Meaning.{Meaning, Facts, line_of}
+use Rattle.curves.specs.Windows.{window_of, window_distance, WithinLimits, CutLosesNothing, CloseAreCandidates, DistancesAreValues, line_window_of}
 use Rattle.curves.specs.declared.line.Line.{Line}
 use Rattle.curves.specs.declared.window.Window.{Window}
 use Rattle.curves.proofs.Questions.{LineAnswered, line_answered}

@@ -7,7 +7,7 @@ use Rattle.std.proofs.lemmas.Int.{ints}
 use Rattle.grid.specs.Residue.{residue}
 use Rattle.grid.proofs.Congruence.{residue_below}
 use Rattle.curves.specs.Meaning.{Facts}
-use Rattle.curves.specs.Kinds.{pairs, bow, widest, bowed_value, bowed_line, bowed_meaning}
+use Rattle.curves.specs.Kinds.{pairs, bow, widest, bowed_value, bowed_meaning}
 use Rattle.curves.specs.Residues.{Alike, residue_alike, alike_residues, residue_at_most}
 use Rattle.curves.specs.Bows.{pairs_add, pairs_rise, widest_within, widest_some, widest_most}
 

@@ -1,12 +1,13 @@
+pub mod BowedFacts
+pub mod Bows
 pub mod Closes
 pub mod Kinds
+pub mod ListedFacts
 pub mod Makers
 pub mod Meaning
 pub mod Offsets
 pub mod Refusals
-pub mod Windows
-pub mod ShiftedFacts
 pub mod Residues
-pub mod BowedFacts
-pub mod Bows
+pub mod ShiftedFacts
 pub mod StraightFacts
+pub mod Windows

@@ -1,11 +1,11 @@
 -- The facts of a shifted curve, from those of the curve below.
-use Rattle.std.specs.Prelude.{◌≡◌, ℕ, ◌+◌, ◌*◌, ◌<◌, ◌≤◌, ℤ, pos, ◌+ℤ◌, ◌-ℤ◌}
+use Rattle.std.specs.Prelude.{◌≡◌, ℕ, ◌+◌, ◌*◌, ◌<◌, pos, ◌+ℤ◌, ◌-ℤ◌}
 use Rattle.std.proofs.Common.{mod-lt, arith}
 use Rattle.std.proofs.lemmas.Int.{ints}
 use Rattle.grid.specs.Residue.{residue}
 use Rattle.curves.specs.Meaning.{Meaning, Facts, LineFacts}
 use Rattle.curves.specs.Kinds.{shifted_meaning}
-use Rattle.curves.specs.Residues.{Alike, residue_alike, alike_residues}
+use Rattle.curves.specs.Residues.{residue_alike, alike_residues}
 
 -- one shift of a value and of an offset leaves their difference, mod M
 same_difference : (M v o t x e : ℕ) → 0 < M →

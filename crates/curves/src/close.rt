@@ -14,11 +14,11 @@ pub(crate) fn window_on_line<C: Curve>(
     length: u32,
     threshold: u64,
 ) -> Option<(Line, Window)>
-    ensures is_the_line_and_its_window { result ≡ line_window_of (meaning curve.now) place length threshold }
-    ensures numbers_within_their_limits { WhereAnswered result (WithinLimits (meaning curve.now) length) }
-    ensures the_cut_loses_nothing { WhereAnswered result (CutLosesNothing (meaning curve.now) threshold) }
-    ensures close_indices_are_candidates { WhereAnswered result (CloseAreCandidates (meaning curve.now) place threshold) }
-    ensures without_error_distances_are_values { WhereAnswered result (DistancesAreValues (meaning curve.now) place) }
+    ensures is_the_line_and_its_window { result ≡ line_window_of (C.meaning curve.now) place length threshold }
+    ensures numbers_within_their_limits { WhereAnswered result (WithinLimits (C.meaning curve.now) length) }
+    ensures the_cut_loses_nothing { WhereAnswered result (CutLosesNothing (C.meaning curve.now) threshold) }
+    ensures close_indices_are_candidates { WhereAnswered result (CloseAreCandidates (C.meaning curve.now) place threshold) }
+    ensures without_error_distances_are_values { WhereAnswered result (DistancesAreValues (C.meaning curve.now) place) }
 {
     match curve.line(place, length) {
         Some(line) => Some((line, Window::over(curve.modulus(), line, threshold))),
@@ -36,7 +36,7 @@ fn above_half(value: u64, threshold: u64) -> i64
 
 /// The offset of the index k for the threshold.
 pub(crate) fn offset_at<C: Curve>(curve: &C, threshold: u64, k: u32) -> Option<i64>
-    ensures is_the_offset_below_the_count { result ≡ offset_answer (meaning curve.now) threshold k }
+    ensures is_the_offset_below_the_count { result ≡ offset_answer (C.meaning curve.now) threshold k }
 {
     match curve.value(k) {
         Some(value) => Some(above_half(value, threshold)),

@@ -26,18 +26,18 @@ pub fn line_window<C: Curve>(
     length: u32,
     threshold: u64,
 ) -> Option<(Line, Window)>
-    ensures is_the_line_and_its_window { result ≡ line_window_of (meaning curve.now) place length threshold }
-    ensures numbers_within_their_limits { WhereAnswered result (WithinLimits (meaning curve.now) length) }
-    ensures the_cut_loses_nothing { WhereAnswered result (CutLosesNothing (meaning curve.now) threshold) }
-    ensures close_indices_are_candidates { WhereAnswered result (CloseAreCandidates (meaning curve.now) place threshold) }
-    ensures without_error_distances_are_values { WhereAnswered result (DistancesAreValues (meaning curve.now) place) }
+    ensures is_the_line_and_its_window { result ≡ line_window_of (C.meaning curve.now) place length threshold }
+    ensures numbers_within_their_limits { WhereAnswered result (WithinLimits (C.meaning curve.now) length) }
+    ensures the_cut_loses_nothing { WhereAnswered result (CutLosesNothing (C.meaning curve.now) threshold) }
+    ensures close_indices_are_candidates { WhereAnswered result (CloseAreCandidates (C.meaning curve.now) place threshold) }
+    ensures without_error_distances_are_values { WhereAnswered result (DistancesAreValues (C.meaning curve.now) place) }
 {
     close::window_on_line(curve, place, length, threshold)
 }
 
 /// The offset of the index k for the threshold: the value at k less half the threshold, rounded down; none where k is N or more.
 pub fn offset_of<C: Curve>(curve: &C, threshold: u64, k: u32) -> Option<i64>
-    ensures is_the_offset_below_the_count { result ≡ offset_answer (meaning curve.now) threshold k }
+    ensures is_the_offset_below_the_count { result ≡ offset_answer (C.meaning curve.now) threshold k }
 {
     close::offset_at(curve, threshold, k)
 }

@@ -1,5 +1,6 @@
 // What a listed curve answers.
 ghost use Rattle.curves.specs.Makers.{listed_curve};
+ghost use Rattle.curves.specs.ListedFacts.{listed_facts};
 
 use crate::curve::Curve;
 use crate::line::Line;
@@ -8,6 +9,10 @@ use grid::modulus::Modulus;
 
 impl<'a> Curve for Listed<'a> {
     ghost meaning = { listed_curve };
+
+    ghost facts = { λ c.
+        listed_facts c.modulus.value c.entries.now
+        c.modulus.within.0 c.modulus.within.1 c.count_within.0 c.count_within.1 };
 
     fn modulus(&self) -> Modulus {
         self.modulus

@@ -1,4 +1,4 @@
-use Rattle.std.proofs.Common.{◌≡◌, ap, ◌∙◌, arith}
+use Rattle.std.proofs.Common.{ap, ◌∙◌, arith}
 use Rattle.curves.specs.Windows.{window_of}
 use Rattle.curves.proofs.Questions.{line_answered}
 use Rattle.curves.proofs.WindowLaws.{window_answered}

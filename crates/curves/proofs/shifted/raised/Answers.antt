@@ -1,4 +1,4 @@
-use Rattle.std.proofs.Common.{◌≡◌, ◌+◌, ◌%◌, sym, ap, ◌∙◌}
+use Rattle.std.proofs.Common.{◌+◌, ◌%◌, ap, ◌∙◌}
 use native.Mathlib.Nat.{add-mod-mod}
 use Rattle.curves.proofs.shifted.raised.Goals as goal
 

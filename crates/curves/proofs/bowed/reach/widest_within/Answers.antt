@@ -1,4 +1,4 @@
-use Rattle.std.proofs.Common.{◌≡◌, ℕ, ◌+◌, ◌-◌, ◌/◌, ◌<◌, ◌≤◌, sym, ap, ◌∙◌, arith}
+use Rattle.std.proofs.Common.{◌≡◌, ℕ, ◌-◌, ◌/◌, ◌<◌, sym, ap, ◌∙◌, arith}
 use Rattle.curves.specs.Kinds.{bow, widest}
 use Rattle.curves.specs.Bows.{widest_whole, widest_below, widest_largest}
 use Rattle.curves.proofs.bowed.reach.widest_within.Goals as goal
