@@ -1,7 +1,7 @@
 -- The close points that were found so far, and all of them.
 use Rattle.std.proofs.Common.{◌≡◌, ℕ, ◌+◌, ◌^◌, ◌<◌, ◌≤◌, true, ltb, List, [], ◌∷◌, ◌++◌, map, length, Some, None, Ok, Err, sym, ap, ◌∙◌, subst, add-one, arith}
 use Rattle.curves.specs.Meaning.{Meaning, value_of}
-use Rattle.std.specs.List.{AllByRecursion as All}
+use Rattle.std.specs.List.{AllByRecursion}
 use Rattle.std.proofs.ByRecursion.{All-push}
 use Rattle.std.proofs.lemmas.List.{length-append, length-map, map_push}
 use Rattle.std.proofs.lemmas.Bool.{lt-ltb, le-ltb, cond-true, cond-false}
@@ -33,10 +33,10 @@ one_more_entered m D i t k v before after f e a b =
     a ∙ ap (λ (n : ℕ). before ++ record { index = k; value = n } ∷ []) e ∙ ap (λ (z : List Hit). z ++ hit_at m k ∷ []) b ∙ sym (next_found m D i t k f)
 
 -- after is before with one point more, whose value fits too
-pub one_more_fits : (before after : List Hit) (h : Hit) → after ≡ before ++ h ∷ [] → All (λ (x : Hit). x.value < 2 ^ 40) before → h.value < 2 ^ 40 →
-    All (λ (x : Hit). x.value < 2 ^ 40) after
+pub one_more_fits : (before after : List Hit) (h : Hit) → after ≡ before ++ h ∷ [] → AllByRecursion (λ (x : Hit). x.value < 2 ^ 40) before → h.value < 2 ^ 40 →
+    AllByRecursion (λ (x : Hit). x.value < 2 ^ 40) after
 one_more_fits before after h e a b =
-    subst (λ (z : List Hit). All (λ (x : Hit). x.value < 2 ^ 40) z) (sym e) (All-push (λ (x : Hit). x.value < 2 ^ 40) before h a b)
+    subst (λ (z : List Hit). AllByRecursion (λ (x : Hit). x.value < 2 ^ 40) z) (sym e) (All-push (λ (x : Hit). x.value < 2 ^ 40) before h a b)
 
 -- 512 close points below i and one more
 pub too_many_found : (m : Meaning) (D i t k : ℕ) (hs : List Hit) → LeastClose m D i t k → hs ≡ hits_below m D i → length hs ≡ 512 →

@@ -1,7 +1,7 @@
 ghost use Rattle.std.specs.Prelude.{◌≡◌, ◌/◌, ◌^◌, ◌<◌, ◌≤◌, ◌++◌, length, IfOk, Some, None, string_bytes};
 ghost use Rattle.curves.specs.Offsets.{value_offset, value_size};
 ghost use Rattle.reports.specs.Listing.{letter_of, closest_of, total_of, head_line, point_text, point_line, sum_line, listing_of, refused_line};
-ghost use Rattle.std.specs.List.{flat_map, AllByRecursion as All};
+ghost use Rattle.std.specs.List.{flat_map, AllByRecursion};
 
 use crate::hit::Hit;
 use crate::refusal::LineRefusal;
@@ -87,7 +87,7 @@ fn sum_line(heap: Global, sum: Summary) -> Result<String, AllocError>
 
 /// The least size of the points, and the sum of their sizes.
 fn summary(threshold: u64, hits: &[Hit]) -> Summary
-    requires numbers_fit { (threshold ≤ 2 ^ 40) × ((length hits.now ≤ 512) × (All (λ h. h.value < 2 ^ 40) hits.now)) }
+    requires numbers_fit { (threshold ≤ 2 ^ 40) × ((length hits.now ≤ 512) × (AllByRecursion (λ h. h.value < 2 ^ 40) hits.now)) }
     ensures has_the_closest { result.closest ≡ closest_of threshold hits.now }
     ensures has_the_total { result.total ≡ total_of threshold hits.now }
 {
@@ -108,7 +108,7 @@ fn point_lines(
     threshold: u64,
     hits: &[Hit],
 ) -> Result<String, AllocError>
-    requires numbers_fit { (threshold ≤ 2 ^ 40) × (All (λ h. h.value < 2 ^ 40) hits.now) }
+    requires numbers_fit { (threshold ≤ 2 ^ 40) × (AllByRecursion (λ h. h.value < 2 ^ 40) hits.now) }
     ensures are_the_lines { IfOk result (λ t. string_bytes t ≡ head_line number (length hits.now) ++ flat_map (point_line threshold) hits.now) }
 {
     let mut text = head_line(heap, number, hits.len())?;
@@ -126,7 +126,7 @@ pub(crate) fn listing(
     threshold: u64,
     hits: &[Hit],
 ) -> Result<String, AllocError>
-    requires numbers_fit { (threshold ≤ 2 ^ 40) × ((length hits.now ≤ 512) × (All (λ h. h.value < 2 ^ 40) hits.now)) }
+    requires numbers_fit { (threshold ≤ 2 ^ 40) × ((length hits.now ≤ 512) × (AllByRecursion (λ h. h.value < 2 ^ 40) hits.now)) }
     ensures is_the_listing { IfOk result (λ t. string_bytes t ≡ listing_of number threshold hits.now) }
 {
     let last = sum_line(heap, summary(threshold, hits))?;

@@ -2,7 +2,7 @@ ghost use Rattle.std.specs.Prelude.{◌≡◌, ◌^◌, ◌<◌, ◌≤◌, leng
 ghost use Rattle.reports.specs.Books.{held, held_by};
 ghost use Rattle.reports.specs.Close.{booked, found, hits_of, meaning_of, shift_of};
 ghost use Rattle.reports.specs.Limits.{judged, threshold_of};
-ghost use Rattle.std.specs.List.{AllByRecursion as All};
+ghost use Rattle.std.specs.List.{AllByRecursion};
 
 use crate::book::Book;
 use crate::hit::Hit;
@@ -19,7 +19,7 @@ use scan::next_close;
 /// Looks again and again behind the close index that was found last.
 fn gather<C: Curve>(curve: &C, threshold: u64) -> Result<Book, LineRefusal>
     ensures holds_the_close_points { held_by result ≡ booked (hits_of (C.meaning curve.now) threshold) }
-    ensures values_fit { IfOk result (λ b. All (λ h. h.value < 2 ^ 40) (held b)) }
+    ensures values_fit { IfOk result (λ b. AllByRecursion (λ h. h.value < 2 ^ 40) (held b)) }
 {
     let count = curve.count();
     let mut book = Book::new();
@@ -49,7 +49,7 @@ fn shift(order: Order) -> u64
 fn gather_shape(order: Order) -> Result<Book, LineRefusal>
     requires within_limits { judged order ≡ Ok tt }
     ensures holds_the_close_points { held_by result ≡ booked (hits_of (meaning_of order) (threshold_of order)) }
-    ensures values_fit { IfOk result (λ b. All (λ h. h.value < 2 ^ 40) (held b)) }
+    ensures values_fit { IfOk result (λ b. AllByRecursion (λ h. h.value < 2 ^ 40) (held b)) }
 {
     let threshold = order.threshold();
     let shift = shift(order);
@@ -78,7 +78,7 @@ pub fn close_points(order: Order) -> Result<Book, LineRefusal>
     ensures holds_the_close_points { held_by result ≡ found order }
     ensures threshold_fits { OnOk result (threshold_of order ≤ 2 ^ 40) }
     ensures few_points { IfOk result (λ b. length (held b) ≤ 512) }
-    ensures values_fit { IfOk result (λ b. All (λ h. h.value < 2 ^ 40) (held b)) }
+    ensures values_fit { IfOk result (λ b. AllByRecursion (λ h. h.value < 2 ^ 40) (held b)) }
 {
     judge(order)?;
     gather_shape(order)

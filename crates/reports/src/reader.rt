@@ -1,5 +1,5 @@
 ghost use Rattle.std.specs.Prelude.{◌≡◌, ◌+◌, ◌-◌, ◌*◌, ◌^◌, ◌<◌, [], ◌∷◌, drop, pos, neg_ℤ, IfSome, slice_index_or};
-ghost use Rattle.reports.specs.Lines.{letter, kind_of, mode_of, number_of, signed_of, fields, numbers_of, exactly, padded, number as numberFirst, signed_number, ended as shapeAtEnd, shape_of, order_of, reading};
+ghost use Rattle.reports.specs.Lines.{letter, kind_of, mode_of, number_of, signed_of, fields, numbers_of, exactly, padded, number as number_first, signed_number, ended as shape_at_end, shape_of, order_of, reading};
 ghost use Rattle.reports.specs.Rest.{fields_after};
 ghost use Rattle.reports.specs.declared.order.Kind.TheVariants.{Straight, Bowed, Listed};
 ghost use Rattle.std.specs.Option.{option_map};
@@ -109,7 +109,7 @@ fn next_field(rest: Option<&[u8]>) -> (&[u8], Option<&[u8]>)
 
 /// The number of the next field, with what follows it.
 fn next_number(rest: Option<&[u8]>) -> Option<(u64, Option<&[u8]>)>
-    ensures is_the_number_with_the_rest { option_map (λ p. (p.0, fields_after (option_map (λ x. x.now) p.1))) result ≡ numberFirst (fields_after (option_map (λ x. x.now) rest.entry)) }
+    ensures is_the_number_with_the_rest { option_map (λ p. (p.0, fields_after (option_map (λ x. x.now) p.1))) result ≡ number_first (fields_after (option_map (λ x. x.now) rest.entry)) }
 {
     let (field, after) = next_field(rest);
     match read_number(field) {
@@ -131,7 +131,7 @@ fn next_signed(rest: Option<&[u8]>) -> Option<(i64, Option<&[u8]>)>
 
 /// A shape, where no field is left.
 fn ended(shape: Shape, rest: Option<&[u8]>) -> Option<Shape>
-    ensures is_the_shape_where_nothing_follows { result ≡ shapeAtEnd shape (fields_after (option_map (λ x. x.now) rest.entry)) }
+    ensures is_the_shape_where_nothing_follows { result ≡ shape_at_end shape (fields_after (option_map (λ x. x.now) rest.entry)) }
 {
     match rest {
         Some(_) => None,

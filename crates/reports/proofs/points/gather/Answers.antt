@@ -14,17 +14,17 @@ loop-index-preserved g c =
     let v = c.in-Some-value.value in
     let e : v ≡ m.value k = value_there m k v f.within c.in-Some-value.ensures.is_the_value_below_the_count in
     let small : v < 2 ^ 40 = omega (arith, e, facts.value_below k f.within, facts.modulus_high) in
-    let p = c.in_ok-push.ensures.enters_the_point_or_is_full in (
+    let p = c.in_ok-push-in-Some-value.ensures.enters_the_point_or_is_full in (
       omega (arith, f.below),
       one_more_entered m c.args.threshold c.loop-index.from c.count-count.result k v (held c.loop-index.book) (held c.push.new.self) f e p c.loop-index.invariant.1,
       one_more_fits (held c.loop-index.book) (held c.push.new.self) (record { index = k; value = v }) p c.loop-index.invariant.2 small,
     )
 
-pub returns-in_err-push : goal.returns-in_err-push
-returns-in_err-push g c =
+pub returns-in_err-push-in-Some-value : goal.returns-in_err-push-in-Some-value
+returns-in_err-push-in-Some-value g c =
     let m = g.C.Curve.meaning c.args.curve.now in
-    let q = err_from_is_err_and c.from-residual.result c.from-residual.ensures.1 in
-    let e = c.in_err-push.ensures.enters_the_point_or_is_full in
+    let q = err_from_is_err_and c.from_residual.result c.from_residual.ensures.1 in
+    let e = c.in_err-push-in-Some-value.ensures.enters_the_point_or_is_full in
     let t = too_many_found m c.args.threshold c.loop-index.from c.count-count.result c.in-Some.index (held c.loop-index.book)
     c.in-Some.ensures.is_the_least_close_index_of_the_range c.loop-index.invariant.1 e.1 in
     record {

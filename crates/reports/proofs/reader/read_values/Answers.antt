@@ -18,11 +18,11 @@ loop-i-preserved c =
     one_number_on sf v c.cut.result.0.now c.in-Some.text.now (option_map (λ x. x.now) c.cut.result.1) _ (ap (option_map (λ x. x.now)) c.in-Some.is)
     c.cut.ensures.splits_off_the_first_field (sym c.in-Some-read_number.is ∙ c.read_number.ensures.is_the_number) kept
 
-pub returns-in-Some-default : goal.returns-in-Some-default
-returns-in-Some-default c =
+pub returns-in-Some-rest : goal.returns-in-Some-rest
+returns-in-Some-rest c =
     let e : c.loop-i.i ≡ c.args.count = omega arith in
     record {
       are_the_values_left =
-          too_many c.loop-i.i c.loop-i.invariant c.in-Some-default.field-0.now (ap (option_map (λ x. x.now)) c.in-Some-default.is)
+          too_many c.loop-i.i c.loop-i.invariant c.in-Some-rest.field-0.now (ap (option_map (λ x. x.now)) c.in-Some-rest.is)
           ∙ ap (λ (n : ℕ). option_map (padded 32) (exactly n (numbers_of (fields_after (option_map (λ x. x.now) c.args.rest))))) e;
     }

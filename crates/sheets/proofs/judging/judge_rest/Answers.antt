@@ -14,7 +14,7 @@ loop-end-init g c =
 pub returns-in_err-judge_one : goal.returns-in_err-judge_one
 returns-in_err-judge_one g c =
     let l = c.loop-end in
-    let p = err_from_is_err_and c.from-residual.result c.from-residual.ensures.1 in
+    let p = err_from_is_err_and c.from_residual.result c.from_residual.ensures.1 in
     record {
       tells_the_judgement =
           rw (p.1, p.2)

@@ -5,5 +5,5 @@ use Rattle.surveys.proofs.table.Table.count_below.Given as goal
 
 abbrev pub invariant-loop-booked : goal.invariant-loop-booked
 invariant-loop-booked l =
-    (l.count ≤ l.booked_index)
-    × (l.count + length (below l.index (drop l.booked_index l.booked-items)) ≡ length (below l.index (book_in l.self)))
+    (l.count ≤ l.booked-index)
+    × (l.count + length (below l.index (drop l.booked-index l.booked-items)) ≡ length (below l.index (book_in l.self)))

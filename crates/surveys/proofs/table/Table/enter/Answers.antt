@@ -27,7 +27,7 @@ invariant_of-self c =
     let lies = lies_settled_by n _ _ _ _ (one_is_set t b Settled) put
     (put_in_lies_settled n (states_of t) b run (book_in t) c.requires.not_settled c.requires.the_run_lies_in_the_block
     t.booked_lie_settled (block_is_there t b (omega arith) c.requires.there)) in
-    (t.some_length, (t.few_blocks, (omega arith, (up, (lies, tt)))))
+    record { some_length = t.some_length; few_blocks = t.few_blocks; few_booked = omega arith; book_rises = up; booked_lie_settled = lies }
 
 pub returns : goal.returns
 returns c =

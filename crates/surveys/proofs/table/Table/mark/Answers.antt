@@ -11,7 +11,7 @@ invariant_of-self c =
     let n = t.block_length in
     let lies = lies_settled_by n _ _ (book_in t) (book_in t) (one_is_set t b c.args.state) refl
     (lies_settled_still n (states_of t) b c.args.state (book_in t) c.requires.not_settled t.booked_lie_settled) in
-    (t.some_length, (t.few_blocks, (t.few_booked, (t.book_rises, (lies, tt)))))
+    record { some_length = t.some_length; few_blocks = t.few_blocks; few_booked = t.few_booked; book_rises = t.book_rises; booked_lie_settled = lies }
 
 pub returns : goal.returns
 returns c = record {

@@ -51,7 +51,7 @@ invariant_of-self c =
     let up = ap rises out ∙ taken_out_rises n b (book_in t) t.book_rises in
     let lies = lies_settled_by n _ _ _ _ (one_is_set t b Waiting) out
     (taken_out_lies_settled n (states_of t) b Waiting (book_in t) t.some_length t.booked_lie_settled) in
-    (t.some_length, (t.few_blocks, (omega arith, (up, (lies, tt)))))
+    record { some_length = t.some_length; few_blocks = t.few_blocks; few_booked = omega arith; book_rises = up; booked_lie_settled = lies }
 
 pub returns : goal.returns
 returns c =
