@@ -1,9 +1,9 @@
 -- What is due at a byte, from the tests that code makes there.
-use Rattle.std.proofs.Common.{◌≡◌, ℕ, ◌+◌, ◌-◌, ◌<◌, ◌≤◌, max, Bool, true, false, cond, ◌||◌, ltb, List, length, take, drop, Ok, Err, Option, sym, refl, ap, ◌∙◌, arith, length-drop, le-ltb, lt-ltb}
+use Rattle.std.proofs.Common.{◌≡◌, ℕ, ◌+◌, ◌-◌, ◌<◌, ◌≤◌, max, Bool, true, false, cond, ◌||◌, ltb, List, length, take, drop, Err, Option, sym, refl, ap, ◌∙◌, arith, length-drop, le-ltb, lt-ltb}
 use Rattle.std.proofs.lemmas.List.{drop-drop}
 use Rattle.records.specs.Bytes.{little, field}
 use Rattle.records.specs.Entries.{Entry}
-use Rattle.records.specs.Reading.{is_short, entry_of, entry_at_front, ending_at, due}
+use Rattle.records.specs.Reading.{entry_of, entry_at_front, ending_at, due}
 use Rattle.records.specs.declared.fault.RecordFault.TheVariants.{Short}
 
 or_first : (a b : Bool) → a ≡ true → a || b ≡ true

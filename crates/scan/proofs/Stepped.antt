@@ -1,5 +1,5 @@
 -- What a step says of the curve, from the laws of its window and the search's answer.
-use Rattle.std.proofs.Common.{◌≡◌, ℕ, ◌+◌, ◌-◌, ◌*◌, ◌<◌, ◌≤◌, Bool, true, false, cond, ◌&&◌, leb, Some, None, Option, sym, refl, ap, ◌∙◌, subst, ⊎_elim, arith}
+use Rattle.std.proofs.Common.{◌≡◌, ℕ, ◌+◌, ◌-◌, ◌<◌, ◌≤◌, Bool, true, false, cond, ◌&&◌, leb, Some, None, sym, refl, ap, ◌∙◌, subst, ⊎_elim, arith}
 use Rattle.std.proofs.lemmas.Bool.{and_parts, cases_lt, leb-true}
 use Rattle.search.specs.declared.answer.Answer.{Answer}
 use Rattle.search.specs.declared.answer.Answer.TheVariants.{Close, Clear}
@@ -9,8 +9,8 @@ use Rattle.curves.specs.Windows.{window_of, window_distance}
 use Rattle.curves.specs.declared.line.Line.{Line}
 use Rattle.curves.specs.declared.window.Window.{Window}
 use Rattle.curves.proofs.WindowLaws.{WindowAnswered}
-use Rattle.scan.specs.Passed.{NoneClose, StaysWithin, PassesNoneClose, CandidateIsClose}
-use Rattle.scan.specs.Steps.{answer_along, told, step_along, step_of, step_in}
+use Rattle.scan.specs.Passed.{StaysWithin, PassesNoneClose, CandidateIsClose}
+use Rattle.scan.specs.Steps.{answer_along, told, step_of, step_in}
 use Rattle.scan.specs.declared.steps.Step.{Step}
 
 -- what a test with one thing or none answers

@@ -1,6 +1,6 @@
 -- From what the walk knows to the answer of the search.
-use Rattle.std.proofs.Common.{◌≡◌, ℕ, zero, suc, ◌+◌, ◌-◌, ◌*◌, ◌<◌, ◌≤◌, min, Bool, true, false, cond, ltb, leb, ◌⊎◌, Some, None, Option, sym, refl, ap, ◌∙◌, subst, inl, inr, ⊎_elim, arith}
-use Rattle.std.proofs.lemmas.Bool.{cases_lt, cases_order, lt-ltb, le-ltb}
+use Rattle.std.proofs.Common.{◌≡◌, ℕ, zero, suc, ◌+◌, ◌-◌, ◌<◌, ◌≤◌, min, Bool, true, false, cond, ltb, ◌⊎◌, Some, None, sym, refl, ap, ◌∙◌, subst, ⊎_elim, arith}
+use Rattle.std.proofs.lemmas.Bool.{cases_lt, lt-ltb, le-ltb}
 use Rattle.search.proofs.Distances.{distance_at}
 use Rattle.search.proofs.Sound.{gap_is, nearest, only}
 use Rattle.search.proofs.Complete.{fine_start}
@@ -8,11 +8,9 @@ use Rattle.search.proofs.Reach.{arrive}
 use Rattle.search.specs.Points.{distance, least}
 use Rattle.search.specs.Configurations.{Config, start, gap, config_for}
 use Rattle.search.specs.Answers.{evidence, close_at, answer}
-use Rattle.grid.specs.Congruent.{Same}
 use Rattle.search.specs.Vouching.{config_of}
-use Rattle.search.specs.Walk.{Spot, Shares, Holds, Towards, Walks, Hits, placed}
+use Rattle.search.specs.Walk.{Spot, Holds, Walks, Hits, placed}
 use Rattle.search.specs.declared.evidence.Evidence.{Evidence}
-use Rattle.search.specs.declared.answer.Answer.{Answer}
 use Rattle.search.specs.declared.answer.Answer.TheVariants.{Close, Clear}
 
 pub least_none : (p : ℕ → Bool) (n : ℕ) → ((j : ℕ) → j < n → p j ≡ false) → least p n ≡ n

@@ -1,5 +1,5 @@
 -- Division with rest, as the batches use it.
-use Rattle.std.proofs.Common.{◌≡◌, ℕ, zero, suc, ◌+◌, ◌-◌, ◌*◌, ◌/◌, ◌%◌, ◌<◌, ◌≤◌, Bool, true, false, eqb, ltb, ◌⊎◌, sym, refl, ap, ◌∙◌, inl, inr, mul-le-mul_right, mod-lt, div-add-mod', arith, ltb-false, ltb-true, eqb-true}
+use Rattle.std.proofs.Common.{◌≡◌, ℕ, zero, suc, ◌+◌, ◌-◌, ◌*◌, ◌/◌, ◌%◌, ◌<◌, ◌≤◌, Bool, true, false, eqb, ltb, sym, refl, ap, ◌∙◌, mul-le-mul_right, mod-lt, div-add-mod', arith, ltb-false, ltb-true, eqb-true}
 use borrow.Author.Tests.{eqb-false}
 
 pub no_units : (n : ℕ) → true ≡ eqb n 0 → n ≡ 0

@@ -1,9 +1,8 @@
 -- The configuration for n shares out the circle, and some r below n has b in its gap.
-use Rattle.std.proofs.Common.{◌≡◌, ℕ, zero, suc, ◌+◌, ◌-◌, ◌*◌, ◌%◌, ◌<◌, ◌≤◌, Bool, true, false, cond, ltb, leb, ◌⊎◌, sym, refl, ap, ◌∙◌, subst, inl, inr, ⊎_elim, arith}
-use Rattle.std.proofs.lemmas.Bool.{cases_lt, cases_order, ltb-true, ltb-false, leb-true, leb-false, cond_both}
+use Rattle.std.proofs.Common.{◌≡◌, ℕ, zero, suc, ◌+◌, ◌-◌, ◌*◌, ◌<◌, ◌≤◌, Bool, true, false, ltb, leb, sym, refl, ap, subst, ⊎_elim, arith}
+use Rattle.std.proofs.lemmas.Bool.{cases_lt, cases_order, ltb-true, ltb-false, leb-true, leb-false}
 use Rattle.search.proofs.Distances.{distance_is, distance_at}
-use Rattle.search.proofs.Sound.{Gap, gap_is}
-use Rattle.grid.specs.Congruent.{Same}
+use Rattle.search.proofs.Sound.{gap_is}
 use Rattle.search.specs.Walk.{Shares, Holds}
 use Rattle.search.specs.Points.{distance}
 use Rattle.search.specs.Configurations.{Config, start, next, first_from, config_for, gap}

@@ -1,9 +1,8 @@
 -- Many steps of one kind at once, and the configurations that they reach.
-use Rattle.std.proofs.Common.{◌≡◌, ℕ, zero, suc, ◌+◌, ◌-◌, ◌*◌, ◌<◌, ◌≤◌, Bool, true, false, ltb, leb, sym, refl, ap, ◌∙◌, subst, arith}
+use Rattle.std.proofs.Common.{◌≡◌, ℕ, zero, suc, ◌+◌, ◌-◌, ◌*◌, ◌<◌, ◌≤◌, Bool, true, false, refl, ap, ◌∙◌, subst, arith}
 use Rattle.std.proofs.lemmas.Bool.{le-leb, lt-leb}
 use Rattle.search.proofs.Complete.{by_next}
 use Rattle.search.specs.Configurations.{Config, next, first_from, config_for}
-use Rattle.grid.specs.Congruent.{Same}
 use Rattle.search.specs.Walk.{Shares, Towards}
 
 pub config_path : {x x' y y' u u' v v' : ℕ} → x ≡ x' → y ≡ y' → u ≡ u' → v ≡ v' →

@@ -1,13 +1,12 @@
 -- A batch of steps with x > y, which shorten x.
-use Rattle.std.proofs.Common.{◌≡◌, ℕ, zero, suc, ◌+◌, ◌-◌, ◌*◌, ◌<◌, ◌≤◌, min, ◌⊎◌, sym, refl, ap, ◌∙◌, subst, subst₂, inl, inr, ⊎_elim, mul-le-mul_right, arith}
+use Rattle.std.proofs.Common.{◌≡◌, ℕ, zero, suc, ◌+◌, ◌-◌, ◌*◌, ◌<◌, ◌≤◌, min, ◌⊎◌, sym, ap, ◌∙◌, subst, subst₂, inl, inr, ⊎_elim, mul-le-mul_right, arith}
 use Rattle.std.proofs.lemmas.Bool.{cases_lt}
-use Rattle.search.proofs.Sound.{Gap, gap_is, nearest}
+use Rattle.search.proofs.Sound.{gap_is, nearest}
 use Rattle.search.proofs.Complete.{up_x}
 use Rattle.search.proofs.Reach.{arrive, lowered, along_l, onto_l, shares_l}
 use Rattle.search.specs.Points.{distance}
-use Rattle.search.specs.Configurations.{Config, gap, config_for}
-use Rattle.search.specs.Vouching.{config_of}
-use Rattle.search.specs.Walk.{Spot, Shares, Holds, Towards, Walks, Hits, Goes, placed, shorter_x}
+use Rattle.search.specs.Configurations.{gap}
+use Rattle.search.specs.Walk.{Spot, Holds, Towards, Walks, Hits, Goes, placed, shorter_x}
 use Rattle.search.specs.declared.evidence.Evidence.{Evidence}
 
 -- where b lies: in an x gap or in a y gap

@@ -4,14 +4,12 @@ use native.Mathlib.Nat.{lt-div-mul-add}
 use Rattle.std.proofs.lemmas.Bool.{cases_lt}
 use Rattle.search.proofs.Batching.{few_steps}
 use Rattle.search.proofs.Distances.{distance_is, distance_at}
-use Rattle.search.proofs.Sound.{Gap, gap_is, nearest}
-use Rattle.search.proofs.ShorterX.{Inside, inside_is}
+use Rattle.search.proofs.Sound.{gap_is, nearest}
+use Rattle.search.proofs.ShorterX.{inside_is}
 use Rattle.search.proofs.Reach.{arrive, raised, along_r, onto_r, shares_r}
 use Rattle.search.specs.Points.{distance}
-use Rattle.search.specs.Configurations.{Config, gap, config_for}
-use Rattle.search.specs.Vouching.{config_of}
+use Rattle.search.specs.Configurations.{gap}
 use Rattle.search.specs.Walk.{Spot, Shares, Holds, Towards, Walks, Hits, Goes, placed, shorter_y}
-use Rattle.search.specs.declared.evidence.Evidence.{Evidence}
 
 -- t times v indices on, a point lies t·x higher
 pub up_many : (M a b x y u v r t : ℕ) → 0 < M → Shares M a x y u v → t * x ≤ distance M a b r → distance M a b (r + t * v) ≡ distance M a b r - t * x

@@ -1,15 +1,12 @@
 -- Vouching: the distance of r is the least below n, and r is the only one.
-use Rattle.std.proofs.Common.{◌≡◌, ℕ, zero, suc, ◌+◌, ◌-◌, ◌*◌, ◌%◌, ◌<◌, ◌≤◌, Bool, true, false, cond, ltb, leb, ◌⊎◌, pos, ◌-ℤ◌, sym, refl, ap, ◌∙◌, inl, inr, ⊎_elim, mod-lt, mod-eq_of_lt, arith}
+use Rattle.std.proofs.Common.{◌≡◌, ℕ, ◌+◌, ◌-◌, ◌*◌, ◌<◌, ◌≤◌, cond, ltb, leb, ◌⊎◌, refl, ap, inl, inr, ⊎_elim, arith}
 use Rattle.std.proofs.lemmas.Bool.{cases_lt, cases_order, ltb-true, ltb-false, leb-true, leb-false, cond_both}
-use Rattle.grid.proofs.Congruence.{quotient, residue_sub}
 use Rattle.search.proofs.Distances.{distance_is}
-use Rattle.search.proofs.Lattice.{Ahead, ahead, behind}
+use Rattle.search.proofs.Lattice.{ahead, behind}
 use Rattle.grid.specs.Congruent.{Same}
-use Rattle.search.specs.Walk.{Shares, Holds}
-use Rattle.grid.specs.Residue.{residue}
+use Rattle.search.specs.Walk.{Holds}
 use Rattle.search.specs.Points.{distance}
 use Rattle.search.specs.Configurations.{Config, gap}
-use Rattle.search.specs.Vouching.{Vouches, config_of}
 
 -- the gap after r, by cases
 abbrev pub Gap : (n : ℕ) (c : Config) (r g : ℕ) → Type 0

@@ -1,16 +1,15 @@
 -- From the five numbers to the circle, and back; and the laws of the definitions.
-use Rattle.std.proofs.Common.{◌≡◌, ℕ, zero, suc, ◌+◌, ◌-◌, ◌*◌, ◌/◌, ◌%◌, ◌<◌, ◌≤◌, pos, ◌-ℤ◌, sym, refl, ap, ◌∙◌, mul-le-mul_right, mod-lt, div-add-mod', arith}
-use Rattle.grid.specs.Congruent.{Same}
+use Rattle.std.proofs.Common.{ℕ, zero, suc, ◌+◌, ◌*◌, ◌/◌, ◌%◌, ◌<◌, ◌≤◌, pos, ◌-ℤ◌, refl, mul-le-mul_right, mod-lt, div-add-mod', arith}
 use Rattle.grid.specs.Residue.{residue}
 use Rattle.grid.proofs.Congruence.{residue_sub, same_below}
 use Rattle.search.specs.Points.{distance}
-use Rattle.search.specs.Configurations.{Config, start, next, config_at, first_from, config_for, gap}
+use Rattle.search.specs.Configurations.{Config, next, config_at, first_from, config_for}
 use Rattle.search.specs.Vouching.{Vouches, config_of}
-use Rattle.search.specs.Laws.{First, Only, ConfigurationIsTheFirstLongEnough, ExactlyOneGapHoldsTheOffset, VouchingNumbersGiveTheLeastDistance, NumbersVouchExactlyWhenNoPointIsClose}
-use Rattle.search.specs.Walk.{Shares, Holds}
+use Rattle.search.specs.Laws.{First, ConfigurationIsTheFirstLongEnough, ExactlyOneGapHoldsTheOffset, VouchingNumbersGiveTheLeastDistance, NumbersVouchExactlyWhenNoPointIsClose}
+use Rattle.search.specs.Walk.{Holds}
 use Rattle.search.specs.declared.evidence.Evidence.{Evidence}
 use Rattle.search.proofs.Sound.{nearest, only}
-use Rattle.search.proofs.Complete.{Fine, Enough, held, fine_for, below_suc, by_leb, by_next, next_more}
+use Rattle.search.proofs.Complete.{Fine, held, fine_for, below_suc, by_leb, by_next, next_more}
 
 pub holds : (M a b D n : ℕ) (c : Evidence) → 0 < M → Vouches M a b D n c → Holds M a b n (config_of c) c.r
 holds M a b D n c h s =

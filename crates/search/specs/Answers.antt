@@ -1,7 +1,7 @@
 -- What a search answers.
 use Rattle.std.specs.Prelude.{ℕ, zero, suc, cond, ltb, Some, None, Ok, Err, Option, Result, nat_lt}
 use Rattle.search.specs.Points.{distance, least}
-use Rattle.search.specs.Configurations.{Config, gap, config_for}
+use Rattle.search.specs.Configurations.{gap, config_for}
 use Rattle.search.specs.Refusals.{refused}
 use Rattle.search.specs.declared.evidence.Evidence.{Evidence}
 use Rattle.search.specs.declared.answer.Answer.{Answer}

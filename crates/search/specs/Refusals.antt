@@ -1,5 +1,5 @@
 -- The refusals of a search: when each is answered, and its number.
-use Rattle.std.specs.Prelude.{ℕ, ◌^◌, Bool, cond, ◌&&◌, Some, None, Option, nat_le, nat_lt}
+use Rattle.std.specs.Prelude.{ℕ, ◌^◌, cond, ◌&&◌, Some, None, Option, nat_le, nat_lt}
 use Rattle.grid.specs.Refusals.{number_of as modulus_number}
 use Rattle.grid.specs.declared.refusal.ModulusRefusal.TheVariants.{OutsideLimits}
 use Rattle.search.specs.declared.refusal.SearchRefusal.{SearchRefusal}

@@ -1,5 +1,5 @@
 -- The hits of a sheet that passes are exactly the close indices of its block.
-use Rattle.std.proofs.Common.{◌≡◌, ℕ, zero, suc, ◌+◌, ◌-◌, ◌^◌, ◌<◌, ◌≤◌, ◌&&◌, eqb, ltb, List, [], ◌∷◌, length, None, Ok, sym, ap, ◌∙◌, subst, add-one, arith}
+use Rattle.std.proofs.Common.{◌≡◌, ℕ, zero, suc, ◌+◌, ◌-◌, ◌^◌, ◌<◌, ◌≤◌, ◌&&◌, eqb, ltb, List, length, None, Ok, sym, ◌∙◌, subst, add-one, arith}
 use Rattle.std.proofs.lemmas.Bool.{and_parts, and_from, not-false, eqb-true, leb-false, ltb-false}
 use Rattle.curves.specs.Closes.{close_between}
 use Rattle.curves.specs.Meaning.{Meaning, Facts}

@@ -3,7 +3,7 @@ use Rattle.std.proofs.Common.{◌≡◌, ℕ, zero, suc, ◌+◌, ◌<◌, ◌�
 use Rattle.std.proofs.lemmas.List.{length-append, take_all, drop_all, drop_more, take-append-le, set_at, set_past}
 use Rattle.std.proofs.lemmas.Bool.{cases_lt}
 use Rattle.curves.specs.Meaning.{Meaning}
-use Rattle.sheets.specs.Blocks.{start_of, stop_of}
+use Rattle.sheets.specs.Blocks.{start_of}
 use Rattle.sheets.specs.Inner.{Told, Turned, UnderWay, judged_behind, with_hits}
 use Rattle.sheets.specs.Tests.{going}
 use Rattle.sheets.specs.Verdict.{Judgement, with_hit, judged_from, laid}

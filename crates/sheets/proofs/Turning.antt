@@ -1,12 +1,12 @@
 -- One turn of the judge.
-use Rattle.std.proofs.Common.{◌≡◌, ℕ, zero, suc, ◌+◌, ◌-◌, ◌<◌, ◌≤◌, Bool, true, false, not, ◌&&◌, List, [], ◌∷◌, length, Some, None, Ok, Err, Option, Result, sym, refl, ap, ◌∙◌, subst, add-one, arith}
+use Rattle.std.proofs.Common.{◌≡◌, ℕ, suc, ◌+◌, ◌-◌, ◌≤◌, true, false, List, length, Some, None, Ok, Err, Option, Result, sym, ap, ◌∙◌, add-one, arith}
 use Rattle.std.proofs.lemmas.Bool.{cond-true, cond-false}
 use Rattle.curves.specs.Meaning.{Meaning}
 use Rattle.records.specs.Entries.{Entry, head, clean, hit, miss, end}
 use Rattle.records.specs.Reading.{due}
 use Rattle.records.specs.declared.fault.RecordFault.{RecordFault}
-use Rattle.sheets.specs.Blocks.{start_of, stop_of}
-use Rattle.sheets.specs.Inner.{Opened, Goes_on, Turned, judged_behind, turn_of}
+use Rattle.sheets.specs.Blocks.{stop_of}
+use Rattle.sheets.specs.Inner.{Opened, Turned, turn_of}
 use Rattle.sheets.specs.Tests.{Due, opening, going, points_of, first_fault, is_not_the_head}
 use Rattle.sheets.specs.Verdict.{Judgement, after, with_hit, judged_entry, judged_from}
 use Rattle.sheets.specs.declared.assignment.Assignment.{Assignment}
@@ -14,7 +14,6 @@ use Rattle.sheets.specs.declared.fault.Fault.{Fault}
 use Rattle.sheets.specs.declared.fault.Fault.TheVariants.{Record, Head, Place}
 use Rattle.sheets.specs.declared.refusal.SheetRefusal.{SheetRefusal}
 use Rattle.sheets.specs.declared.refusal.SheetRefusal.TheVariants.{Faulty}
-use Rattle.sheets.specs.declared.turn.Turn.{Turn}
 use Rattle.sheets.proofs.Passed.{none_fits, placed}
 
 module _ (m : Meaning) (a : Assignment) (s : List ℕ) (at : ℕ) where

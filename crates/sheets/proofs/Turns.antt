@@ -1,6 +1,6 @@
 -- One turn of the judge: what it meets at a byte, and what an entry without a fault is.
-use Rattle.std.proofs.Common.{◌≡◌, ℕ, suc, ◌+◌, ◌-◌, ◌<◌, ◌≤◌, Bool, true, false, cond, eqb, leb, List, ◌∷◌, length, drop, Some, None, Ok, Err, Option, Result, refl, ap, ◌∙◌, add-one, arith, lit≤, length-drop}
-use Rattle.std.proofs.lemmas.Bool.{not-false, not_from_true, and_parts, and_from, eqb-true, eq-eqb, leb-true, le-leb, leb-false, lt-leb, ltb-false, le-ltb}
+use Rattle.std.proofs.Common.{◌≡◌, ℕ, suc, ◌+◌, ◌-◌, ◌<◌, ◌≤◌, Bool, true, false, cond, eqb, List, ◌∷◌, length, drop, Some, None, Ok, Err, Option, Result, refl, ap, ◌∙◌, add-one, arith, lit≤, length-drop}
+use Rattle.std.proofs.lemmas.Bool.{not-false, not_from_true, and_parts, and_from, eqb-true, eq-eqb, le-leb, leb-false, lt-leb, ltb-false, le-ltb}
 use Rattle.search.proofs.Tested.{vouching_vouches}
 use Rattle.curves.specs.Meaning.{Meaning, Facts}
 use Rattle.records.proofs.Encoding.{read_is_encoded}

@@ -1,5 +1,5 @@
 -- What inner functions of the judge say of its judgement. Only they cite this file.
-use Rattle.std.specs.Prelude.{◌≡◌, ℕ, suc, ◌+◌, ◌*◌, ◌<◌, ◌≤◌, cond, not, List, [], ◌∷◌, length, Some, None, Ok, Err, Option, Result, ◌==◌}
+use Rattle.std.specs.Prelude.{◌≡◌, ℕ, suc, ◌+◌, ◌<◌, ◌≤◌, cond, not, List, [], ◌∷◌, length, Some, None, Ok, Err, Option, Result, ◌==◌}
 use Rattle.curves.specs.Meaning.{Meaning}
 use Rattle.records.specs.Entries.{Entry, head, clean, hit, miss, end}
 use Rattle.records.specs.declared.clean.CleanStretch.{CleanStretch}

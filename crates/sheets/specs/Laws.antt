@@ -3,8 +3,8 @@ use Rattle.std.specs.Prelude.{◌≡◌, ℕ, ◌+◌, ◌-◌, ◌<◌, ◌≤�
 use Rattle.search.specs.declared.evidence.Evidence.{Evidence}
 use Rattle.curves.specs.Closes.{close_between}
 use Rattle.curves.specs.Meaning.{Meaning}
-use Rattle.records.specs.Bytes.{Bytes, field}
-use Rattle.records.specs.Entries.{Entry, clean, size_of, CleanFits}
+use Rattle.records.specs.Bytes.{Bytes}
+use Rattle.records.specs.Entries.{Entry, size_of, CleanFits}
 use Rattle.records.specs.Reading.{is_short, entry_at_front}
 use Rattle.records.specs.declared.fault.RecordFault.TheVariants.{Short, Form}
 use Rattle.sheets.specs.Blocks.{start_of, stop_of}

@@ -3,7 +3,7 @@ use Rattle.std.specs.Prelude.{ℕ, ◌+◌, Bool, true, false, cond, not, ◌&&�
 use Rattle.curves.specs.Meaning.{Meaning}
 use Rattle.records.specs.Entries.{Entry, head, clean, hit, miss, end}
 use Rattle.records.specs.declared.heading.Heading.{Heading}
-use Rattle.sheets.specs.Blocks.{start_of, stop_of}
+use Rattle.sheets.specs.Blocks.{stop_of}
 use Rattle.sheets.specs.Clean.{reaches, vouched}
 use Rattle.sheets.specs.declared.assignment.Assignment.{Assignment}
 use Rattle.sheets.specs.declared.fault.Fault.{Fault}

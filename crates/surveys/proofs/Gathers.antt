@@ -6,7 +6,6 @@ use Rattle.curves.specs.Closes.{close_among, close_between}
 use Rattle.curves.specs.Meaning.{Meaning}
 use Rattle.curves.proofs.CloseIndices.{far_between, close_first, none_at_the_end}
 use Rattle.scan.specs.Nexts.{LeastClose, NextClose}
-use Rattle.scan.specs.Passed.{NoneClose}
 use Rattle.surveys.specs.Gathered.{Gathered, Gathering}
 
 -- the places up to one that was just written

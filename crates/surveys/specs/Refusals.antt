@@ -1,5 +1,5 @@
 -- The refusals of the calls: their numbers, and the byte that goes with one.
-use Rattle.std.specs.Prelude.{ℕ, Some, None, Option}
+use Rattle.std.specs.Prelude.{ℕ, None, Option}
 use Rattle.sheets.specs.Faults.{byte_of as sheet_byte, number_of as sheet_number}
 use Rattle.surveys.specs.declared.refusal.giving_back.GiveBackRefusal.{GiveBackRefusal}
 use Rattle.surveys.specs.declared.refusal.giving_back.GiveBackRefusal.TheVariants as give_back

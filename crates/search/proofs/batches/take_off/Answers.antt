@@ -1,4 +1,4 @@
-use Rattle.std.proofs.Common.{◌≡◌, ◌-◌, ◌*◌, ◌<◌, ◌≤◌, refl, ap, ◌∙◌, inl, inr, arith}
+use Rattle.std.proofs.Common.{◌*◌, refl, ap, inl, inr, arith}
 use Rattle.search.proofs.Batching.{no_units, some_units, divided, fewer_fit}
 use Rattle.search.proofs.batches.take_off.Goals as goal
 

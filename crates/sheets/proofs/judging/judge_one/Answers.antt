@@ -1,4 +1,4 @@
-use Rattle.std.proofs.Common.{◌≡◌, ◌+◌, ◌≤◌, Some, None, Ok, Err, sym, ap, ◌∙◌, subst, arith}
+use Rattle.std.proofs.Common.{◌≤◌, Some, Ok, Err, sym, ap, ◌∙◌, subst, arith}
 use Rattle.records.specs.Reading.{says}
 use Rattle.sheets.specs.Blocks.{stop_of}
 use Rattle.sheets.specs.Inner.{Turned}

@@ -1,6 +1,6 @@
-use Rattle.std.proofs.Common.{◌≡◌, ℕ, ◌+◌, List, length, Ok, sym, subst, arith}
+use Rattle.std.proofs.Common.{◌+◌, Ok, subst, arith}
 use Rattle.std.proofs.lemmas.Result.{err_from_is_err_and}
-use Rattle.sheets.specs.Inner.{Turned, UnderWay}
+use Rattle.sheets.specs.Inner.{Turned}
 use Rattle.sheets.specs.declared.turn.Turn.{Turn}
 use Rattle.sheets.proofs.Going.{begins, refused, over, as_named, goes_on_with_a_hit, goes_on}
 use Rattle.sheets.proofs.judging.judge_rest.Goals as goal

@@ -1,4 +1,4 @@
-use Rattle.std.proofs.Common.{◌+◌, ◌-◌, length}
+use Rattle.std.proofs.Common.{◌-◌, length}
 use Rattle.sheets.specs.Inner.{UnderWay}
 use Rattle.sheets.proofs.judging.judge_rest.Given as goal
 

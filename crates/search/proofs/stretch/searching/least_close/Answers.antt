@@ -1,4 +1,4 @@
-use Rattle.std.proofs.Common.{◌≡◌, sym, ap, ◌∙◌, subst, arith}
+use Rattle.std.proofs.Common.{sym, ap, ◌∙◌, subst, arith}
 use Rattle.search.proofs.Answered.{zero_is, one_clear, close_is, walked}
 use Rattle.search.specs.Answers.{answer}
 use Rattle.search.specs.Walk.{Opened, evidence_at, spot}

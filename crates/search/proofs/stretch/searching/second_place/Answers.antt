@@ -1,7 +1,7 @@
-use Rattle.std.proofs.Common.{◌≡◌, ◌-◌, sym, refl, ap, ◌∙◌, subst, inl, inr, arith}
+use Rattle.std.proofs.Common.{◌≡◌, ◌-◌, sym, refl, ap, ◌∙◌, subst, inl, inr}
 use Rattle.search.proofs.Answered.{one_close, two_walks}
 use Rattle.search.proofs.ShorterX.{told}
-use Rattle.search.specs.Walk.{Spot, WalksAlong, evidence_at, spot}
+use Rattle.search.specs.Walk.{WalksAlong, evidence_at, spot}
 use Rattle.search.proofs.stretch.searching.second_place.Goals as goal
 
 pub returns-then-stretch : goal.returns-then-stretch

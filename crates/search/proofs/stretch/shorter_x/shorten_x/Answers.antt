@@ -1,6 +1,6 @@
-use Rattle.std.proofs.Common.{◌≡◌, ℕ, ◌+◌, ◌-◌, ◌*◌, ◌<◌, ◌≤◌, inl, inr, mul-le-mul_right, arith}
+use Rattle.std.proofs.Common.{ℕ, ◌+◌, ◌-◌, ◌*◌, ◌<◌, ◌≤◌, inl, inr, mul-le-mul_right, arith}
 use Rattle.search.proofs.Batching.{is_less, is_not_less, few_steps}
-use Rattle.search.proofs.ShorterX.{BatchL, MovesL, moves_l, value_l, small_l, small_move_l, stays_l, moved_l, late_l, hits_l, told, some_y, inside_is}
+use Rattle.search.proofs.ShorterX.{BatchL, moves_l, small_l, small_move_l, stays_l, moved_l, late_l, hits_l, told, some_y, inside_is}
 use Rattle.search.specs.Walk.{Spot, spot}
 use Rattle.search.proofs.stretch.shorter_x.shorten_x.Goals as goal
 use Rattle.search.proofs.stretch.shorter_x.shorten_x.Goals.{then-s-via-then-s, then-s-via-else-s+then-less, then-s-eq0, else-s-eq0}

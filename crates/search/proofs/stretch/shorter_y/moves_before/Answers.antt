@@ -1,4 +1,4 @@
-use Rattle.std.proofs.Common.{◌≡◌, ◌-◌, ◌*◌, ◌/◌, refl, ap, ◌∙◌, arith}
+use Rattle.std.proofs.Common.{◌-◌, ◌*◌, ◌/◌, refl, ap, arith}
 use Rattle.search.proofs.Batching.{divided}
 use Rattle.search.proofs.stretch.shorter_y.moves_before.Goals as goal
 

@@ -1,4 +1,4 @@
-use Rattle.std.proofs.Common.{◌≡◌, ◌+◌, ◌-◌, ◌*◌, ◌<◌, ◌≤◌, sym, subst, inl, inr, arith}
+use Rattle.std.proofs.Common.{sym, subst, inl, inr, arith}
 use Rattle.search.proofs.Batching.{is_less, is_not_less}
 use Rattle.search.proofs.ShorterY.{batch_r, small_r, stays_r, moves_r, moved_r, close_r, near_r, hits_r, some_x}
 use Rattle.search.specs.Walk.{Turned, spot}

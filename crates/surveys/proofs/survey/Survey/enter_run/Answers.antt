@@ -1,4 +1,4 @@
-use Rattle.std.proofs.Common.{◌≡◌, ◌+◌, ◌≤◌, sym, refl, ap, ◌∙◌, arith}
+use Rattle.std.proofs.Common.{◌≤◌, sym, refl, ap, ◌∙◌, arith}
 use Rattle.surveys.specs.Books.{put_in}
 use Rattle.surveys.specs.Keeper.{ledger_of}
 use Rattle.surveys.specs.Tables.{book_in}
