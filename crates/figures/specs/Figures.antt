@@ -91,11 +91,14 @@ pub record TermsFigures : Type 0 where
   pub threshold_at_the_modulus : terms_answered 45 4096 ≡ accepted
   pub threshold_above_the_modulus : terms_answered 46 4096 ≡ refused 3
 
--- all of them
+-- all of searches and curves
 pub record Figures : Type 0 where
   pub searches : SearchFigures
   pub refusals : RefusalFigures
   pub gaps : GapFigures
   pub bows : BowedFigures
+
+-- all of sheets and terms
+pub record SheetAndTermsFigures : Type 0 where
   pub sheets : SheetFigures
   pub survey_terms : TermsFigures

@@ -1,25 +1,22 @@
 #![tactic(auto)]
-//! Prints worked figures: searches and gaps, and the sheets of the table on standard input, each judged.
-mod assignments;
+// Prints worked figures: searches in both arithmetics, and the gaps between the first points of the slope 17 on the circle of 45.
 mod searches;
-mod sheet_table;
-mod verdicts;
 
-ghost use Rattle.figures.specs.Figures.{Figures};
+ghost use Rattle.figures.specs.Figures.{Figures, SheetAndTermsFigures};
 
 use searches::{show_all_gaps, show_searches};
-use sheet_table::show_sheets;
 
 /// Every figure holds of the definitions.
 fn figures_hold()
     ensures every_figure_holds { Figures }
+    ensures so_do_those_of_sheets_and_terms { SheetAndTermsFigures }
 {}
 
 fn run(rt: &HostRuntime) -> anyhow::Result<()> {
     figures_hold();
     show_searches(rt)?;
     show_all_gaps(rt)?;
-    show_sheets(rt)
+    Ok(())
 }
 
 fn main(rt: HostRuntime) -> anyhow::Result<()> {
