@@ -1,4 +1,5 @@
 -- The facts of a bowed curve.
+-- Proofs only: the law of its impl rests on them, and a law may cite nothing of its crate but specs/.
 use Rattle.std.specs.Prelude.{◌≡◌, ℕ, suc, ◌+◌, ◌-◌, ◌*◌, ◌^◌, ◌<◌, ◌≤◌, ℤ, pos, negsuc, ◌+ℤ◌, ◌-ℤ◌, ◌*ℤ◌, neg_ℤ, unsigned_abs, refl}
 use Rattle.std.proofs.Common.{ap, ◌∙◌, add_assoc, mul-add, mul-le-mul_left, arith}
 use Rattle.std.proofs.Math.Nat.{mod-le}

@@ -1,4 +1,5 @@
 -- The pairs among some things, the bow of some points, and the widest stretch whose bow is within a tolerance.
+-- The proofs here serve the law of an impl, which may cite nothing of its crate but specs/.
 use Rattle.std.specs.Prelude.{◌≡◌, ℕ, zero, suc, ◌+◌, ◌-◌, ◌*◌, ◌<◌, ◌≤◌, true, false, leb, nat_le, refl}
 use Rattle.std.proofs.Common.{sym, ap, subst, ◌∙◌, mul-le-mul_left, arith, le-leb}
 use Rattle.std.proofs.Math.Decide.{dec_le}

@@ -1,4 +1,5 @@
 -- The facts of a listed curve.
+-- Proofs only: the law of its impl rests on them, and a law may cite nothing of its crate but specs/.
 use Rattle.std.proofs.Common.{◌≡◌, ℕ, ◌+◌, ◌*◌, ◌^◌, ◌<◌, ◌≤◌, List, length, get_or, pos, ◌+ℤ◌, ◌-ℤ◌, ap, mod-lt, arith}
 use Rattle.std.proofs.lemmas.Int.{ints}
 use Rattle.curves.specs.Meaning.{Facts}

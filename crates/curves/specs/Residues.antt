@@ -1,4 +1,5 @@
 -- Congruence mod M of signed whole numbers, and what it says of their residues.
+-- The proofs here serve the law of an impl, which may cite nothing of its crate but specs/.
 use Rattle.std.specs.Prelude.{◌≡◌, ℕ, suc, ◌+◌, ◌*◌, ◌/◌, ◌%◌, ◌<◌, ◌≤◌, ℤ, pos, negsuc, ◌+ℤ◌}
 use Rattle.std.proofs.Common.{div-add-mod', mod-lt, arith}
 use Rattle.std.proofs.Math.Nat.{mod-le}

@@ -1,4 +1,5 @@
 -- The facts of a straight curve.
+-- Proofs only: the law of its impl rests on them, and a law may cite nothing of its crate but specs/.
 use Rattle.std.specs.Prelude.{ℕ, ◌+◌, ◌*◌, ◌^◌, ◌<◌, ◌≤◌, pos, ◌+ℤ◌, ◌-ℤ◌}
 use Rattle.std.proofs.Common.{arith}
 use Rattle.std.proofs.lemmas.Int.{ints}

@@ -1,4 +1,5 @@
 -- Whole numbers up to 2 ^ prec in a float of either format: casts, comparison and subtraction are exact.
+-- The proofs here serve the law of an impl, which may cite nothing of its crate but specs/.
 use Rattle.std.proofs.Common.{◌≡◌, ℕ, ◌+◌, ◌-◌, ◌*◌, ◌^◌, ◌<◌, ◌≤◌, true, false, T, ltb, pos, sym, ap, ◌∙◌, subst, inl, inr, true≢false, mul-le-mul_right, eq-zero-or-pos, mul-lt-mul_of_pos_right, mul-pos, arith, le→leb, le-ltb, lt-ltb}
 use lib.Ieee.{Float, Format, nan, inf, fin, binary32, binary64, prec, up, down, round, sum, add, sub, neg, lt, of_int, to_unsigned, in_unsigned, in_float}
 use lib.Ieee.Fits.{down_pos, of_int-fits}

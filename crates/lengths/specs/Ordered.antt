@@ -1,4 +1,5 @@
 -- An order that is the order of the units is total over the units.
+-- The proofs here serve the law of an impl, which may cite nothing of its crate but specs/.
 use Rattle.std.proofs.Common.{◌≡◌, ℕ, ◌-◌, ◌<◌, Bool, T, ltb, ◌⊎◌, sym, subst, inl, inr, eq-zero-or-pos, arith, lt→ltb}
 
 module _ {X : Type 0} (units : X → ℕ) (before : X → X → Bool) (ordered : (x y : X) → before x y ≡ ltb (units x) (units y)) where
