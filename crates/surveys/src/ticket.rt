@@ -1,8 +1,8 @@
 // Tickets.
-ghost use Rattle.std.specs.Prelude.{◌≡◌};
+ghost use Rattle.std.specs.Prelude.{◌≡◌, ◌≤◌};
 
-/// The right to one block of a survey that is out. It comes only from issuing the block, and must be settled, worked or given back: nothing
-/// meets what letting it go requires.
+/// The right to one block of a survey that is out. It comes only from issuing the block, and must be settled, worked or given back: letting
+/// it go requires a block that no survey has, since a survey has at most 256.
 pub struct Ticket {
     survey: u32,
     block: u32,
@@ -10,7 +10,7 @@ pub struct Ticket {
 
 impl Drop for Ticket {
     fn drop(self)
-        requires never_let_go { ⊥ }
+        requires is_for_no_block { 256 ≤ self.block }
     {
         let Ticket {
             survey: _,
