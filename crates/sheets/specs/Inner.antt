@@ -46,7 +46,7 @@ turn_of (miss p) k behind = On behind (k + points_of (miss p))
 turn_of (end n) k behind = Over
 
 -- reading goes on at a later byte of the sheet, with an index up to the end of the block
-pub record Goes_on (m : Meaning) (a : Assignment) (s : List ℕ) (at end next : ℕ) : Type 0 where
+pub record GoesOn (m : Meaning) (a : Assignment) (s : List ℕ) (at end next : ℕ) : Type 0 where
   pub later : at + 8 ≤ end
   pub within : end ≤ length s
   pub below : next ≤ stop_of m a
@@ -55,10 +55,10 @@ pub record Goes_on (m : Meaning) (a : Assignment) (s : List ℕ) (at end next : 
 abbrev pub Turned : (m : Meaning) (a : Assignment) (s : List ℕ) (at k records : ℕ) → Result Turn SheetRefusal → Type 0
 Turned m a s at k records (Ok Over) = (turns : ℕ) → judged_from (suc turns) m a s at (going k records) ≡ Ok []
 Turned m a s at k records (Ok (Hit behind)) =
-    Goes_on m a s at behind (k + 1) ×
+    GoesOn m a s at behind (k + 1) ×
     ((turns : ℕ) → judged_from (suc turns) m a s at (going k records) ≡ with_hit k (judged_from turns m a s behind (going (k + 1) (records + 1))))
 Turned m a s at k records (Ok (On behind next)) =
-    Goes_on m a s at behind next ×
+    GoesOn m a s at behind next ×
     ((turns : ℕ) → judged_from (suc turns) m a s at (going k records) ≡ judged_from turns m a s behind (going next (records + 1)))
 Turned m a s at k records (Err refusal) = (turns : ℕ) → judged_from (suc turns) m a s at (going k records) ≡ Err refusal
 

@@ -10,7 +10,7 @@ use Rattle.sheets.specs.Laws.{HitsAreTheCloseIndices}
 use Rattle.sheets.specs.Verdict.{Judgement, counted, laid, lent, verdict}
 use Rattle.sheets.specs.declared.assignment.Assignment.{Assignment}
 use Rattle.surveys.specs.Books.{all_pass, is_in_block, rises}
-use Rattle.surveys.specs.Gathered.{Laid_out}
+use Rattle.surveys.specs.Gathered.{LaidOut}
 use Rattle.surveys.specs.Keeper.{Above, Among, Rising}
 use Rattle.surveys.specs.Ledger.{Ledger, asked, close_in, has_room}
 use Rattle.surveys.specs.declared.state.State.{State}
@@ -35,7 +35,7 @@ members_pass p (x ∷ xs) all = and_from _ _ (all x (inl refl)) (members_pass p 
 pub front : (n : ℕ) (places : List ℕ) → mid_of 0 (n - 0) places ≡ take n places
 front n places = let e : n - 0 ≡ n = omega arith in ap (λ k. take k places) e
 
-module _ (m : Meaning) (l : Ledger) (b count : ℕ) (places : List ℕ) (out : Laid_out (close_in m l b) count places) (few : count ≤ 512) where
+module _ (m : Meaning) (l : Ledger) (b count : ℕ) (places : List ℕ) (out : LaidOut (close_in m l b) count places) (few : count ≤ 512) where
   run_is : mid_of 0 (count - 0) places ≡ close_in m l b
   run_is = front count places ∙ out.stand few
 
@@ -56,18 +56,18 @@ module _ (m : Meaning) (l : Ledger) (b count : ℕ) (places : List ℕ) (out : L
 
 -- ---- whether there is room
 
-pub room_there : (m : Meaning) (l : Ledger) (b count booked : ℕ) (places : List ℕ) → Laid_out (close_in m l b) count places → count + booked ≤ 512 →
+pub room_there : (m : Meaning) (l : Ledger) (b count booked : ℕ) (places : List ℕ) → LaidOut (close_in m l b) count places → count + booked ≤ 512 →
     has_room m l booked b ≡ true
 room_there m l b count booked places out fits = le-leb _ _ (omega (arith, out.counts))
 
-pub no_room_there : (m : Meaning) (l : Ledger) (b count booked : ℕ) (places : List ℕ) → Laid_out (close_in m l b) count places → 512 < count + booked →
+pub no_room_there : (m : Meaning) (l : Ledger) (b count booked : ℕ) (places : List ℕ) → LaidOut (close_in m l b) count places → 512 < count + booked →
     has_room m l booked b ≡ false
 no_room_there m l b count booked places out over = lt-leb _ _ (omega (arith, out.counts))
 
 -- ---- what was gathered, and what was judged
 
 pub gathered_is_laid_out : (indices places : List ℕ) (count : ℕ) → length places ≡ 512 → count ≤ 512 → take count places ≡ indices →
-    Laid_out indices count places
+    LaidOut indices count places
 gathered_is_laid_out indices places count long few is =
     record { counts = sym (length-take-le count places (omega arith)) ∙ ap length is; stand = λ _. is }
 
@@ -77,7 +77,7 @@ laid_hits hits zeros few =
     ∙ take_at hits (drop (length hits) zeros) (length hits) refl
 
 judged_by : (m : Meaning) (a : Assignment) (s places zeros : List ℕ) (count : ℕ) (v : Judgement) → verdict m a s ≡ v → Ok count ≡ counted v →
-    places ≡ lent v zeros → HitsAreTheCloseIndices m a → Laid_out (close_between m a.threshold (start_of m a) (stop_of m a)) count places
+    places ≡ lent v zeros → HitsAreTheCloseIndices m a → LaidOut (close_between m a.threshold (start_of m a) (stop_of m a)) count places
 judged_by m a s places zeros count (Err refusal) is counts lays law = let z : ◌≡◌ {A = ℕ} 0 1 = cc in absurd (omega arith)
 judged_by m a s places zeros count (Ok hits) is counts lays law =
     let n : count ≡ length hits = cc in
@@ -90,9 +90,9 @@ judged_by m a s places zeros count (Ok hits) is counts lays law =
 
 pub judged_is_laid_out : (m : Meaning) (number : ℕ) (l : Ledger) (b : ℕ) (a : Assignment) (s places zeros : List ℕ) (count : ℕ) →
     a ≡ asked number l b → Ok count ≡ counted (verdict m a s) → places ≡ lent (verdict m a s) zeros → HitsAreTheCloseIndices m a →
-    Laid_out (close_in m l b) count places
+    LaidOut (close_in m l b) count places
 judged_is_laid_out m number l b a s places zeros count asks counts lays law =
-    let P : Assignment → Type 0 = λ x. Laid_out (close_between m x.threshold (start_of m x) (stop_of m x)) count places in
+    let P : Assignment → Type 0 = λ x. LaidOut (close_between m x.threshold (start_of m x) (stop_of m x)) count places in
     subst P asks (judged_by m a s places zeros count (verdict m a s) refl counts lays law)
 
 -- ---- a test for something there

@@ -22,7 +22,7 @@ pub record Gathering (m : Meaning) (D s t next count : ℕ) (places : List ℕ) 
   pub so_far : take count places ++ close_between m D next t ≡ close_between m D s t
 
 -- so many indices, which stand in the first places where they are no more than 512
-pub record Laid_out (indices : List ℕ) (count : ℕ) (places : List ℕ) : Type 0 where
+pub record LaidOut (indices : List ℕ) (count : ℕ) (places : List ℕ) : Type 0 where
   pub counts : count ≡ length indices
   pub stand : count ≤ 512 → take count places ≡ indices
 

@@ -1,6 +1,6 @@
 // The calls that move the blocks of a survey.
 ghost use Rattle.std.specs.Prelude.{◌≡◌, ◌<◌, false, slice_index_or};
-ghost use Rattle.surveys.specs.Gathered.{Entered, Gathered, Laid_out};
+ghost use Rattle.surveys.specs.Gathered.{Entered, Gathered, LaidOut};
 ghost use Rattle.surveys.specs.Keeper.{Refuses, Stepped, ledger_of};
 ghost use Rattle.surveys.specs.Ledger.{asked, close_in, give_back, issue, moved_by, recall, settle, work};
 ghost use Rattle.surveys.specs.States.{is_settled};
@@ -91,7 +91,7 @@ impl<C: Curve> Survey<C> {
     fn enter_run(&mut self, block: u32, count: u32, places: &[u32; 512]) -> bool
         requires there { block < self.old.table.blocks }
         requires not_settled { is_settled (slice_index_or (states_of self.old.table) block Waiting) ≡ false }
-        requires the_close_indices { Laid_out (close_in (C.meaning self.old.curve) (ledger_of self.old.table) block) count places.now }
+        requires the_close_indices { LaidOut (close_in (C.meaning self.old.curve) (ledger_of self.old.table) block) count places.now }
         ensures enters_where_there_is_room { Entered (C.meaning self.old.curve) self.old.table block self.new.table result }
         ensures keeps_curve_and_number { (self.new.curve ≡ self.old.curve) × (self.new.number ≡ self.old.number) }
     {
