@@ -9,7 +9,7 @@ use searches::{show_all_gaps, show_searches};
 /// Every figure holds of the definitions.
 fn figures_hold()
     ensures every_figure_holds { Figures }
-    ensures so_do_those_of_sheets_and_terms { SheetAndTermsFigures }
+    ensures every_figure_of_sheets_and_terms_holds { SheetAndTermsFigures }
 {}
 
 fn run(rt: &HostRuntime) -> anyhow::Result<()> {

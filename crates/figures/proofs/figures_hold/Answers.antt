@@ -27,7 +27,7 @@ returns c =
         gaps = record { two_points = refl; three_points = refl; four_points = refl };
         bows = record { values = refl; no_value_at_the_count = refl; line = refl; no_line_past_the_count = refl };
       };
-      so_do_those_of_sheets_and_terms = record {
+      every_figure_of_sheets_and_terms_holds = record {
         sheets = record { passes = refl; a_miss_that_is_close = refl };
         survey_terms = record {
           blocks_of_4096 = refl;

@@ -32,8 +32,8 @@ impl<C: Curve> Survey<C> {
     {
         match self.table.after(block, Act::Issue) {
             None => Err(IssueRefusal::NotWaiting),
-            Some(next) => {
-                self.table.mark(block, next);
+            Some(out) => {
+                self.table.mark(block, out);
                 Ok(Ticket::issue(self.number, block))
             }
         }
@@ -134,8 +134,8 @@ impl<C: Curve> Survey<C> {
         let mut places = [0; 512];
         match judge(&self.curve, self.asked(block), sheet, &mut places) {
             Err(refusal) => Err((SettleRefusal::Sheet(refusal), ticket)),
-            Ok(count) => {
-                if !self.enter_run(block, count, &places) {
+            Ok(hits) => {
+                if !self.enter_run(block, hits, &places) {
                     return Err((SettleRefusal::BookFull, ticket));
                 }
                 ticket.spend();

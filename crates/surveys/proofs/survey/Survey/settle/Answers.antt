@@ -18,6 +18,6 @@ enter_run-requires g c =
       not_settled = r.1;
       the_close_indices =
           judged_is_laid_out (g.C.Curve.meaning s.curve) s.number (ledger_of s.table) c.block-block.result c.asked.result
-          c.args.sheet.now c.judge.new.hits _ c.in-Ok.count c.asked.ensures.is_this_block_on_these_terms
+          c.args.sheet.now c.judge.new.hits _ c.in-Ok.hits c.asked.ensures.is_this_block_on_these_terms
           j.is_the_verdict j.lays_the_hits_or_keeps_the_places j.hits_are_the_close_indices_of_the_block;
     }
