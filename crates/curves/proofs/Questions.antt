@@ -1,6 +1,6 @@
 -- What an answer to a question tells of what was asked.
 use Rattle.std.proofs.Common.{◌≡◌, ℕ, ◌+◌, ◌<◌, ◌≤◌, Bool, true, false, cond, ◌&&◌, ltb, leb, Some, None, sym, refl, subst, arith}
-use Rattle.std.proofs.lemmas.Bool.{ltb-true, leb-true}
+use Rattle.std.proofs.lemmas.Bool.{and_parts, ltb-true, leb-true}
 use Rattle.curves.specs.Meaning.{Meaning, Facts, LineFacts, value_of, line_of}
 use Rattle.curves.specs.declared.line.Line.{Line}
 
@@ -8,11 +8,6 @@ use Rattle.curves.specs.declared.line.Line.{Line}
 some_where : {A : Type 0} (b : Bool) (x y : A) → Some x ≡ cond b (Some y) None → (b ≡ true) × (x ≡ y)
 some_where true x y e = (refl, cc)
 some_where false x y e = let z : ◌≡◌ {A = ℕ} 0 1 = cc in absurd (omega arith)
-
-both_hold : (a b : Bool) → a && b ≡ true → (a ≡ true) × (b ≡ true)
-both_hold true true e = (refl, refl)
-both_hold true false e = let z : ◌≡◌ {A = ℕ} 0 1 = cc in absurd (omega arith)
-both_hold false b e = let z : ◌≡◌ {A = ℕ} 0 1 = cc in absurd (omega arith)
 
 -- v was answered to the question for the value at k
 pub record ValueAnswered (m : Meaning) (k v : ℕ) : Type 0 where
@@ -36,7 +31,7 @@ pub record LineAnswered (m : Meaning) (s n : ℕ) (l : Line) : Type 0 where
 pub line_answered : (m : Meaning) (s n : ℕ) (l : Line) → Facts m → Some l ≡ line_of m s n → LineAnswered m s n l
 line_answered m s n l f e =
     let w = some_where (leb 1 n && leb (s + n) m.count) l (m.line s n) e in
-    let t = both_hold (leb 1 n) (leb (s + n) m.count) w.0 in
+    let t = and_parts (leb 1 n) (leb (s + n) m.count) w.0 in
     let from : 1 ≤ n = leb-true 1 n t.0 in
     let to : s + n ≤ m.count = leb-true (s + n) m.count t.1 in
     let P : Line → Type 0 = λ x. LineFacts m s n x in

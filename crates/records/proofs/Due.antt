@@ -1,17 +1,11 @@
 -- What is due at a byte, from the tests that code makes there.
-use Rattle.std.proofs.Common.{◌≡◌, ℕ, ◌+◌, ◌-◌, ◌<◌, ◌≤◌, max, Bool, true, false, cond, ◌||◌, ltb, List, length, take, drop, Err, Option, sym, refl, ap, ◌∙◌, arith, length-drop, le-ltb, lt-ltb}
+use Rattle.std.proofs.Common.{◌≡◌, ℕ, ◌+◌, ◌-◌, ◌<◌, ◌≤◌, max, Bool, false, cond, ◌||◌, ltb, List, length, take, drop, Err, Option, sym, ap, ◌∙◌, arith, length-drop, le-ltb, lt-ltb}
+use Rattle.std.proofs.lemmas.Bool.{or_left, or_right}
 use Rattle.std.proofs.lemmas.List.{drop-drop}
 use Rattle.records.specs.Bytes.{little, field}
 use Rattle.records.specs.Entries.{Entry}
 use Rattle.records.specs.Reading.{entry_of, entry_at_front, ending_at, due}
 use Rattle.records.specs.declared.fault.RecordFault.TheVariants.{Short}
-
-or_first : (a b : Bool) → a ≡ true → a || b ≡ true
-or_first a b e = ap (λ x. x || b) e
-
-or_second : (a b : Bool) → b ≡ true → a || b ≡ true
-or_second true b e = refl
-or_second false b e = e
 
 or_none : (a b : Bool) → a ≡ false → b ≡ false → a || b ≡ false
 or_none a b e f = ap (λ x. x || b) e ∙ f
@@ -20,13 +14,13 @@ module _ (s : List ℕ) (at : ℕ) where
   pub due_beyond_the_end : length s < at + 4 → due s at ≡ Err Short
   due_beyond_the_end h =
       ap (λ b. cond b (Err Short) (ending_at (at + field (drop at s) 0 2) (entry_at_front (drop at s))))
-      (or_first (ltb (length (drop at s)) 4) (ltb (length (drop at s)) (field (drop at s) 0 2))
+      (or_left (ltb (length (drop at s)) 4) (ltb (length (drop at s)) (field (drop at s) 0 2))
       (lt-ltb _ _ (simp length-drop (omega arith))))
 
   pub due_cut_short : at + 4 ≤ length s → length s < at + field s at 2 → due s at ≡ Err Short
   due_cut_short h k =
       ap (λ b. cond b (Err Short) (ending_at (at + field (drop at s) 0 2) (entry_at_front (drop at s))))
-      (or_second (ltb (length (drop at s)) 4) (ltb (length (drop at s)) (field (drop at s) 0 2))
+      (or_right (ltb (length (drop at s)) 4) (ltb (length (drop at s)) (field (drop at s) 0 2))
       (lt-ltb _ _ (simp length-drop (omega arith))))
 
   -- where the bytes suffice, by the stated length and kind

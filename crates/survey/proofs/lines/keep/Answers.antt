@@ -1,14 +1,7 @@
-use Rattle.std.proofs.Common.{◌≡◌, ℕ, ◌-◌, ◌<◌, ◌≤◌, min, Bool, true, cond, List, ◌++◌, length, take, is_ok, vec_items, vec_len, sym, ap, ◌∙◌, ⊎_elim, arith}
-use Rattle.std.proofs.lemmas.List.{take_all}
-use Rattle.std.proofs.lemmas.Bool.{cases_lt, cond-true}
+use Rattle.std.proofs.Common.{◌≡◌, ℕ, ◌-◌, min, Bool, true, cond, List, ◌++◌, length, take, is_ok, vec_items, vec_len, ap, ◌∙◌, arith}
+use Rattle.std.proofs.lemmas.List.{take_min}
+use Rattle.std.proofs.lemmas.Bool.{cond-true}
 use Rattle.survey.proofs.lines.keep.Goals as goal
-
-take_min : (n : ℕ) (s : List ℕ) → take (min n (length s)) s ≡ take n s
-take_min n s =
-    ⊎_elim
-    (λ (l : n < length s). let e : min n (length s) ≡ n = omega arith in ap (λ k. take k s) e)
-    (λ (l : length s ≤ n). take_all (min n (length s)) s (omega arith) ∙ sym (take_all n s l))
-    (cases_lt n (length s))
 
 -- n is what fits of the part s; a list x is y with that, where the call that extended it answers b
 extended : (n m k : ℕ) (s x y : List ℕ) (b : Bool) → n ≡ min m (length s) → m ≡ k → x ≡ cond b (y ++ take (n - 0) s) y → b ≡ true → x ≡ y ++ take k s
