@@ -1,2 +1,3 @@
+pub mod Left
 pub mod Ranged
 pub mod Stepped

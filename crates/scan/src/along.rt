@@ -21,11 +21,7 @@ pub(crate) fn step_along<A: Arithmetic, C: Curve>(
     ensures passes_over_no_close_index { PassesNoneClose (C.meaning curve.now) threshold place result }
     ensures without_error_a_candidate_is_close { CandidateIsClose (C.meaning curve.now) threshold place end result }
 {
-    match line_window(curve, place, end.saturating_sub(place), threshold) {
-        Some((line, window)) => {
-            let answer = search_reach::<A>(curve.modulus(), line, window);
-            Some(tell(line.reach, answer))
-        }
-        None => None,
-    }
+    let (line, window) = line_window(curve, place, end.saturating_sub(place), threshold)?;
+    let answer = search_reach::<A>(curve.modulus(), line, window);
+    Some(tell(line.reach, answer))
 }

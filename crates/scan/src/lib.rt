@@ -10,6 +10,7 @@ use curves::curve::Curve;
 use lengths::arithmetic::Arithmetic;
 
 mod along;
+pub mod close_indices;
 mod nexts;
 pub mod steps;
 mod windows;

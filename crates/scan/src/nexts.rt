@@ -11,10 +11,7 @@ use lengths::arithmetic::Arithmetic;
 fn is_close<C: Curve>(curve: &C, threshold: u64, index: u32) -> bool
     ensures tells_whether_it_is_close { result ≡ is_close (C.meaning curve.now) threshold index }
 {
-    match curve.value(index) {
-        Some(value) => value < threshold,
-        None => false,
-    }
+    curve.value(index).is_some_and(|value| value < threshold)
 }
 
 /// Step by step from `from` on: behind what a step passes over, and behind a candidate whose value is not below the threshold.

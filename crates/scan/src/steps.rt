@@ -2,7 +2,7 @@
 use search::evidence::Evidence;
 
 /// What the search of one line tells of the indices from a place on.
-#[derive(Clone, Copy)]
+#[derive(Clone, Copy, PartialEq, Eq, Debug)]
 pub enum Step {
     /// None of the reach is a candidate, with the evidence for the reach.
     Clean {

@@ -18,17 +18,14 @@ pub(crate) fn search_reach<A: Arithmetic>(modulus: Modulus, line: Line, window: 
     ensures is_the_answer_for_the_reach { result ≡ answer_along modulus.value line window }
     ensures index_below_the_reach { IndexBelow line.reach result }
 {
-    let asked = search::<A>(
+    search::<A>(
         modulus.get(),
         line.slope,
         window.offset,
         window.threshold,
         u64::from(line.reach),
-    );
-    match asked {
-        Err(_) => unreachable(),
-        Ok(answer) => answer,
-    }
+    )
+    .unwrap()
 }
 
 /// The answer for a reach, as a step.
