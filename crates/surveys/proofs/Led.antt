@@ -1,5 +1,6 @@
 -- A call that moves a block finds it, in a state that it moves.
-use Rattle.std.proofs.Common.{◌≡◌, ℕ, zero, suc, ◌<◌, Bool, true, false, cond, eqb, List, [], ◌∷◌, length, get_or, Some, None, Option, sym, refl, ap, ◌∙◌, subst, arith, length-take}
+use Rattle.std.proofs.Common.{◌≡◌, ℕ, ◌<◌, Bool, true, false, cond, eqb, List, length, get_or, Some, None, Option, sym, refl, ap, ◌∙◌, subst, arith, length-take}
+use Rattle.std.proofs.lemmas.Option.{get_or_from_slice_get, slice_get_within}
 use Rattle.surveys.specs.Keeper.{ledger_of}
 use Rattle.surveys.specs.Ledger.{state_at, led, moved_by}
 use Rattle.surveys.specs.States.{moved, is_settled}
@@ -13,9 +14,7 @@ use Rattle.surveys.specs.declared.ticket.Ticket.{Ticket}
 
 -- a block with a state is one of the list
 pub there : (xs : List State) (b : ℕ) (s : State) → state_at xs b ≡ Some s → (b < length xs) × (get_or xs b Waiting ≡ s)
-there [] b s e = let z : ◌≡◌ {A = ℕ} 0 1 = cc in absurd (omega arith)
-there (x ∷ xs) zero s e = (omega arith, cc)
-there (x ∷ xs) (suc b) s e = let r = there xs b s e in (omega (arith, r.0), r.1)
+there xs b s e = (slice_get_within xs b s e, get_or_from_slice_get xs b s Waiting e)
 
 -- the state that a call found a block in
 pub record Found (xs : List State) (b : ℕ) (act : Act) (s : State) : Type 0 where
@@ -66,15 +65,6 @@ ticket_is_ready number t k b act s other e same =
     subst P (sym same)
     (block_is_ready t k.block act s other (of_this_survey (eqb k.survey number) s (led act (state_at (states_of t) k.block)) e))
 
--- no act but a recall is one
-pub issue_is_no_recall : Issue ≡ Recall → ⊥
-issue_is_no_recall e = let z : ◌≡◌ {A = ℕ} 0 1 = cc in omega arith
-
-pub give_back_is_no_recall : GiveBack ≡ Recall → ⊥
-give_back_is_no_recall e = let z : ◌≡◌ {A = ℕ} 0 1 = cc in omega arith
-
-pub work_is_no_recall : Work ≡ Recall → ⊥
-work_is_no_recall e = let z : ◌≡◌ {A = ℕ} 0 1 = cc in omega arith
-
+-- settling is no recall
 pub settle_is_no_recall : Settle ≡ Recall → ⊥
 settle_is_no_recall e = let z : ◌≡◌ {A = ℕ} 0 1 = cc in omega arith

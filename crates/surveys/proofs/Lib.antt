@@ -1,7 +1,8 @@
 pub mod Booked
+pub mod Counted
 pub mod Exact
 pub mod Found
-pub mod Gathers
+pub mod Judged
 pub mod Led
 pub mod Lying
 pub mod Marked

@@ -3,7 +3,8 @@ use Rattle.std.proofs.Common.{◌≡◌, ℕ, ◌+◌, ◌*◌, ◌/◌, ◌<◌
 use native.Mathlib.Nat.{div-eq_of_lt-le, lt-div-mul-add}
 use Rattle.std.proofs.lemmas.List.{get_or-set_same, get_or-set_other}
 use Rattle.std.proofs.lemmas.Bool.{and_parts, cases_lt, both_ways, leb-true, ltb-true, le-leb}
-use Rattle.surveys.specs.Books.{all_pass, rises, lies_settled, is_in_block, below, from, put_in, taken_out}
+use Rattle.std.specs.List.{list_all}
+use Rattle.surveys.specs.Books.{rises, lies_settled, is_in_block, below, from, put_in, taken_out}
 use Rattle.surveys.specs.States.{is_settled}
 use Rattle.surveys.specs.declared.state.State.{State}
 use Rattle.surveys.specs.declared.state.State.TheVariants.{Waiting, Settled}
@@ -55,7 +56,7 @@ past_its_block n b k some h e =
 
 -- of a block that is not settled nothing is booked, so what is not before it is past it
 past_the_block : (n : ℕ) (states : List State) (b : ℕ) (book : List ℕ) → is_settled (get_or states b Waiting) ≡ false →
-    lies_settled n states book ≡ true → all_pass (leb (b * n + n)) (from (b * n) book) ≡ true
+    lies_settled n states book ≡ true → list_all (leb (b * n + n)) (from (b * n) book) ≡ true
 past_the_block n states b book unsettled lies =
     pass_by_two (leb (b * n)) (λ k. is_settled (get_or states (k / n) Waiting)) (leb (b * n + n))
     (λ k low settled.
@@ -69,7 +70,7 @@ past_the_block n states b book unsettled lies =
 
 module _ (n : ℕ) (states : List State) (b : ℕ) (run book : List ℕ)
     (unsettled : is_settled (get_or states b Waiting) ≡ false)
-    (inside : all_pass (is_in_block n b) run ≡ true)
+    (inside : list_all (is_in_block n b) run ≡ true)
     (lies : lies_settled n states book ≡ true) where
   pub put_in_rises : rises run ≡ true → rises book ≡ true → rises (put_in n b run book) ≡ true
   put_in_rises run_Up up =

@@ -1,28 +1,18 @@
 -- The book: the close indices of the settled blocks, rising.
-use Rattle.std.specs.Prelude.{ℕ, zero, suc, ◌+◌, ◌*◌, ◌/◌, Bool, true, cond, ◌&&◌, ltb, List, [], ◌∷◌, ◌++◌, Some, None, Option, nat_le, nat_lt, slice_index_or}
+use Rattle.std.specs.Prelude.{ℕ, ◌+◌, ◌*◌, ◌/◌, Bool, true, cond, ◌&&◌, ltb, List, [], ◌∷◌, ◌++◌, nat_le, nat_lt, slice_index_or}
+use Rattle.std.specs.List.{list_all}
 use Rattle.surveys.specs.States.{is_settled}
 use Rattle.surveys.specs.declared.state.State.{State}
 use Rattle.surveys.specs.declared.state.State.TheVariants.{Waiting}
 
--- the item at a place of a list; none beyond its end
-abbrev pub item_at : {A : Type 0} → List A → (i : ℕ) → Option A
-item_at [] i = None
-item_at (x ∷ xs) zero = Some x
-item_at (x ∷ xs) (suc i) = item_at xs i
-
--- each of the list passes the test
-abbrev pub all_pass : (ℕ → Bool) → List ℕ → Bool
-all_pass p [] = true
-all_pass p (k ∷ ks) = p k && all_pass p ks
-
 -- the list rises
 abbrev pub rises : List ℕ → Bool
 rises [] = true
-rises (k ∷ ks) = all_pass (ltb k) ks && rises ks
+rises (k ∷ ks) = list_all (ltb k) ks && rises ks
 
 -- each of the book lies in a settled block; n is the block length
 abbrev pub lies_settled : (n : ℕ) → List State → List ℕ → Bool
-lies_settled n states book = all_pass (λ k. is_settled (slice_index_or states (k / n) Waiting)) book
+lies_settled n states book = list_all (λ k. is_settled (slice_index_or states (k / n) Waiting)) book
 
 -- whether the index k lies in the block b of the length n
 abbrev pub is_in_block : (n b k : ℕ) → Bool

@@ -1,13 +1,13 @@
 -- The keeper's ledger. It is fed the curve's meaning, the survey number and each call's arguments, and nothing else; it holds the terms and the
 -- states of the blocks, and says what each call answers.
-use Rattle.std.specs.Prelude.{ℕ, ◌+◌, ◌-◌, ◌/◌, Bool, cond, ◌&&◌, List, [], ◌∷◌, ◌++◌, length, replicate, Some, None, Ok, Err, Option, ◌==◌, nat_le, slice_set}
+use Rattle.std.specs.Prelude.{ℕ, ◌+◌, ◌-◌, ◌/◌, Bool, cond, ◌&&◌, List, [], ◌∷◌, ◌++◌, length, replicate, Some, None, Ok, Err, Option, ◌==◌, nat_le, slice_set, slice_get}
 use Rattle.curves.specs.Closes.{close_between}
 use Rattle.curves.specs.Meaning.{Meaning}
 use Rattle.sheets.specs.Blocks.{start_of, stop_of}
 use Rattle.sheets.specs.Faults.{byte_of, number_of}
 use Rattle.sheets.specs.Verdict.{Judgement, verdict}
 use Rattle.sheets.specs.declared.assignment.Assignment.{Assignment}
-use Rattle.surveys.specs.Books.{item_at, put_in, taken_out}
+use Rattle.surveys.specs.Books.{put_in, taken_out}
 use Rattle.surveys.specs.States.{all_waiting, is_settled, moved}
 use Rattle.surveys.specs.declared.act.Act.{Act}
 use Rattle.surveys.specs.declared.act.Act.TheVariants.{Issue, GiveBack, Work, Settle, Recall}
@@ -50,7 +50,7 @@ start m = record { threshold = 0; block_length = 4096; states = replicate (block
 
 -- the state of a block; none where there is no such block
 abbrev pub state_at : List State → (b : ℕ) → Option State
-state_at states b = item_at states b
+state_at states b = slice_get states b
 
 -- the state that a call leads a block to; none where the call is refused there
 abbrev pub led : Act → Option State → Option State

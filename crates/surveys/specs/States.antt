@@ -1,5 +1,6 @@
 -- The states of a block, and what the calls do to them.
-use Rattle.std.specs.Prelude.{ℕ, ◌+◌, Bool, true, false, ◌&&◌, List, [], ◌∷◌, Some, None, Option}
+use Rattle.std.specs.Prelude.{ℕ, ◌+◌, Bool, true, false, List, [], ◌∷◌, Some, None, Option}
+use Rattle.std.specs.List.{list_all}
 use Rattle.surveys.specs.declared.act.Act.{Act}
 use Rattle.surveys.specs.declared.act.Act.TheVariants.{Issue, GiveBack, Work, Settle, Recall}
 use Rattle.surveys.specs.declared.state.State.{State}
@@ -34,8 +35,7 @@ is_settled Out = false
 is_settled Settled = true
 
 abbrev pub all_waiting : List State → Bool
-all_waiting [] = true
-all_waiting (s ∷ ss) = is_waiting s && all_waiting ss
+all_waiting states = list_all is_waiting states
 
 -- 1 for a block that is out
 abbrev pub one_out : State → ℕ

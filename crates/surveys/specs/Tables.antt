@@ -1,6 +1,5 @@
 -- What a table keeps.
-use Rattle.std.specs.Prelude.{◌≡◌, ℕ, List, take, Option}
-use Rattle.surveys.specs.Books.{item_at}
+use Rattle.std.specs.Prelude.{◌≡◌, ℕ, List, take, Option, slice_get}
 use Rattle.surveys.specs.declared.state.State.{State}
 use Rattle.surveys.specs.declared.table.Table.{Table}
 
@@ -20,4 +19,4 @@ pub record KeepsTheTerms (t u : Table) : Type 0 where
 
 -- the i-th index of a book; none beyond its end
 abbrev pub index_at : List ℕ → (i : ℕ) → Option ℕ
-index_at book i = item_at book i
+index_at book i = slice_get book i

@@ -3,30 +3,25 @@ ghost use Rattle.std.specs.Prelude.{◌≤◌};
 ghost use Rattle.curves.specs.Closes.{close_between};
 ghost use Rattle.surveys.specs.Gathered.{Gathered};
 
+use crate::refusal::no_room::NoRoom;
+use arrayvec::ArrayVec;
 use curves::curve::Curve;
 use lengths::arithmetic::Arithmetic;
-use scan::next_close;
+use scan::close_indices::CloseIndices;
 
-/// Lays the close indices of a range into the places and answers how many they are; none where they are more than 512.
+/// The close indices of a range, where they are no more than a book has room for.
 pub(crate) fn gather<A: Arithmetic, C: Curve>(
     curve: &C,
     threshold: u64,
     from: u32,
     to: u32,
-    places: &mut [u32; 512],
-) -> Option<u32>
+) -> Result<ArrayVec<u32, 512>, NoRoom>
     requires within { to ≤ (C.meaning curve.now).count }
-    ensures has_them_all_or_they_are_too_many { Gathered (close_between (C.meaning curve.now) threshold from to) places.new result }
+    ensures has_them_all_or_they_are_too_many { Gathered (close_between (C.meaning curve.now) threshold from to) result }
 {
-    let mut count: u32 = 0;
-    let mut next = from;
-    while let Some(index) = next_close::<A, C>(curve, threshold, next, to) {
-        if count >= 512 {
-            return None;
-        }
-        places[count as usize] = index;
-        count += 1;
-        next = index + 1;
+    let mut run = ArrayVec::new();
+    for index in CloseIndices::<A, C>::new(curve, threshold, from, to) {
+        run.try_push(index).map_err(|_| NoRoom)?;
     }
-    Some(count)
+    Ok(run)
 }

@@ -1,5 +1,6 @@
 // Tickets.
 ghost use Rattle.std.specs.Prelude.{◌≡◌, ◌≤◌};
+ghost use Rattle.surveys.specs.Gathered.{returning};
 
 /// The right to one block of a survey that is out. It comes only from issuing the block, and must be settled, worked or given back: letting
 /// it go requires a block that no survey has, since a survey has at most 256.
@@ -28,11 +29,24 @@ impl Ticket {
     }
 
     /// Takes the ticket back.
-    pub(super) fn spend(self) {
+    fn spend(self) {
         let Ticket {
             survey: _,
             block: _,
         } = self;
+    }
+
+    /// Takes the ticket back where a call was accepted, and hands it back beside the refusal where not.
+    pub(super) fn spent_on<E>(self, outcome: Result<(), E>) -> Result<(), (E, Ticket)>
+        ensures hands_it_back_with_a_refusal { result ≡ returning self outcome }
+    {
+        match outcome {
+            Ok(()) => {
+                self.spend();
+                Ok(())
+            }
+            Err(refusal) => Err((refusal, self)),
+        }
     }
 
     /// The number of the survey that issued it.

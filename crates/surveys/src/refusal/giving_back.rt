@@ -3,7 +3,7 @@ ghost use Rattle.surveys.specs.Refusals.{give_back_number};
 ghost use Rattle.std.specs.Prelude.{◌≡◌};
 
 /// Why a ticket is not taken back.
-#[derive(Clone, Copy)]
+#[derive(Clone, Copy, PartialEq, Eq, Debug)]
 pub enum GiveBackRefusal {
     /// The ticket is of another survey number, or its block is not out here.
     NotOut,

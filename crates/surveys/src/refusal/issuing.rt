@@ -3,7 +3,7 @@ ghost use Rattle.surveys.specs.Refusals.{issue_number};
 ghost use Rattle.std.specs.Prelude.{◌≡◌};
 
 /// Why no ticket is issued.
-#[derive(Clone, Copy)]
+#[derive(Clone, Copy, PartialEq, Eq, Debug)]
 pub enum IssueRefusal {
     /// The block is not waiting, or there is no such block.
     NotWaiting,

@@ -3,7 +3,7 @@ ghost use Rattle.surveys.specs.Refusals.{recall_number};
 ghost use Rattle.std.specs.Prelude.{◌≡◌};
 
 /// Why a block is not recalled.
-#[derive(Clone, Copy)]
+#[derive(Clone, Copy, PartialEq, Eq, Debug)]
 pub enum RecallRefusal {
     /// The block is not settled, or there is no such block.
     NotSettled,

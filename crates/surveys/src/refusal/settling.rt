@@ -1,11 +1,13 @@
 // Why settling a block is refused.
 ghost use Rattle.surveys.specs.Refusals.{settle_byte, settle_number};
+ghost use Rattle.surveys.specs.declared.refusal.settling.SettleRefusal.TheVariants.{BookFull, Sheet};
 ghost use Rattle.std.specs.Prelude.{◌≡◌};
 
+use crate::refusal::no_room::NoRoom;
 use sheets::refusal::SheetRefusal;
 
 /// Why a block is not settled, in the order in which it is looked for.
-#[derive(Clone, Copy)]
+#[derive(Clone, Copy, PartialEq, Eq, Debug)]
 pub enum SettleRefusal {
     /// The ticket is of another survey number, or its block is not out here.
     NotOut,
@@ -35,5 +37,21 @@ impl SettleRefusal {
             SettleRefusal::NotOut | SettleRefusal::BookFull => None,
             SettleRefusal::Sheet(refusal) => refusal.byte(),
         }
+    }
+}
+
+impl From<NoRoom> for SettleRefusal {
+    ghost from_gives = { λ none refusal. refusal ≡ BookFull };
+
+    fn from(_none: NoRoom) -> SettleRefusal {
+        SettleRefusal::BookFull
+    }
+}
+
+impl From<SheetRefusal> for SettleRefusal {
+    ghost from_gives = { λ sheet refusal. refusal ≡ Sheet sheet };
+
+    fn from(sheet: SheetRefusal) -> SettleRefusal {
+        SettleRefusal::Sheet(sheet)
     }
 }

@@ -3,7 +3,7 @@ ghost use Rattle.surveys.specs.Refusals.{terms_number};
 ghost use Rattle.std.specs.Prelude.{◌≡◌};
 
 /// Why a threshold and a block length are not taken, in the order in which it is looked for.
-#[derive(Clone, Copy)]
+#[derive(Clone, Copy, PartialEq, Eq, Debug)]
 pub enum TermsRefusal {
     /// Some block is not waiting.
     NotAllWaiting,

@@ -15,14 +15,14 @@ fn block_count(count: u32, length: u32) -> u64
     requires some_length { 1 ≤ length }
     ensures rounded_up { result ≡ (count + (length - 1)) / length }
 {
-    (count as u64 + (length as u64 - 1)) / length as u64
+    (u64::from(count) + (u64::from(length) - 1)) / u64::from(length)
 }
 
 /// Whether a block length is within its limits and makes at most 256 blocks.
 fn fits_length(count: u32, length: u32) -> bool
     ensures is_the_test_of_the_length { (m : Meaning) → m.count ≡ count → result ≡ length_fits m length }
 {
-    length >= 1 && length <= 65536 && block_count(count, length) <= 256
+    (1..=65536).contains(&length) && block_count(count, length) <= 256
 }
 
 impl<C: Curve> Survey<C> {

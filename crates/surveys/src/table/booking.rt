@@ -1,6 +1,7 @@
 // The book of a table.
 ghost use Rattle.std.specs.Prelude.{◌≡◌, ◌+◌, ◌-◌, ◌<◌, ◌≤◌, true, false, ◌++◌, length, take, drop, slice_index_or, slice_range, slice_set};
-ghost use Rattle.surveys.specs.Books.{all_pass, below, is_in_block, put_in, rises, taken_out};
+ghost use Rattle.std.specs.List.{list_all};
+ghost use Rattle.surveys.specs.Books.{below, is_in_block, put_in, rises, taken_out};
 ghost use Rattle.surveys.specs.States.{is_settled};
 ghost use Rattle.surveys.specs.Tables.{KeepsTheTerms, book_in, index_at, states_of};
 ghost use Rattle.surveys.specs.declared.state.State.TheVariants.{Settled, Waiting};
@@ -36,28 +37,26 @@ impl Table {
         self.booked
     }
 
+    /// The booked indices, which rise.
+    fn book(&self) -> &[u32]
+        ensures are_the_booked_indices { result.now ≡ book_in self.now }
+    {
+        &self.book[..self.booked as usize]
+    }
+
     /// The i-th booked index; none beyond the end.
     pub(crate) fn index(&self, i: u32) -> Option<u32>
         ensures is_the_books_index { result ≡ index_at (book_in self.now) i }
     {
-        if i < self.booked {
-            Some(self.book[i as usize])
-        } else {
-            None
-        }
+        self.book().get(i as usize).copied()
     }
 
     /// How many booked indices lie below an index.
     fn count_below(&self, index: u64) -> usize
         ensures are_those_below { result ≡ length (below index (book_in self.now)) }
     {
-        let mut count = 0;
-        for booked in &self.book[0..self.booked as usize] {
-            if (*booked as u64) < index {
-                count += 1;
-            }
-        }
-        count
+        self.book()
+            .partition_point(|booked| u64::from(*booked) < index)
     }
 
     /// Enters the close indices of a block that is not settled, and settles it.
@@ -66,7 +65,7 @@ impl Table {
         requires not_settled { is_settled (slice_index_or (states_of self.old) block Waiting) ≡ false }
         requires room { self.old.booked + length run.now ≤ 512 }
         requires the_run_rises { rises run.now ≡ true }
-        requires the_run_lies_in_the_block { all_pass (is_in_block self.old.block_length block) run.now ≡ true }
+        requires the_run_lies_in_the_block { list_all (is_in_block self.old.block_length block) run.now ≡ true }
         ensures settles_the_block { states_of self.new ≡ slice_set (states_of self.old) block Settled }
         ensures puts_the_run_in { book_in self.new ≡ put_in self.old.block_length block run.now (book_in self.old) }
         ensures keeps_the_terms { KeepsTheTerms self.old self.new }

@@ -27,38 +27,32 @@ impl Table {
         }
     }
 
+    /// The states of the blocks.
+    fn states(&self) -> &[State]
+        ensures are_those_of_the_blocks { result.now ≡ states_of self.now }
+    {
+        &self.states[..self.blocks as usize]
+    }
+
     /// The state of a block; none where there is no such block.
     pub(crate) fn state(&self, block: u32) -> Option<State>
         ensures is_the_state_of_a_block_there_is { result ≡ state_at (states_of self.now) block }
     {
-        if block < self.blocks {
-            Some(self.states[block as usize])
-        } else {
-            None
-        }
+        self.states().get(block as usize).copied()
     }
 
     /// The state that an act leads a block to; none where it is refused there.
     pub(crate) fn after(&self, block: u32, act: Act) -> Option<State>
         ensures is_where_the_act_leads { result ≡ led act (state_at (states_of self.now) block) }
     {
-        match self.state(block) {
-            Some(state) => state_after(state, act),
-            None => None,
-        }
+        state_after(self.state(block)?, act)
     }
 
     /// Whether every block waits.
     pub(crate) fn all_wait(&self) -> bool
         ensures tells_whether_all_wait { result ≡ all_waiting (states_of self.now) }
     {
-        for state in &self.states[0..self.blocks as usize] {
-            match *state {
-                State::Waiting => {}
-                State::Out | State::Settled => return false,
-            }
-        }
-        true
+        self.states().iter().all(|state| *state == State::Waiting)
     }
 
     /// Moves a block that is not settled.

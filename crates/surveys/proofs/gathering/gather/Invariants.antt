@@ -1,9 +1,10 @@
-use Rattle.std.proofs.Common.{◌-◌}
-use Rattle.surveys.specs.Gathered.{Gathering}
+use Rattle.std.proofs.Common.{◌≡◌, ◌++◌}
+use Rattle.curves.specs.Closes.{close_between}
 use Rattle.surveys.proofs.gathering.gather.Given as goal
 
+-- what was taken and what is still to come are all
 abbrev pub invariant-loop-index : goal.invariant-loop-index
-invariant-loop-index g l = Gathering (g.C.Curve.meaning l.curve) l.threshold l.from l.to l.next l.count l.places
-
-abbrev pub decreases-loop-index : goal.decreases-loop-index
-decreases-loop-index g l = l.to - l.next
+invariant-loop-index g l =
+    let i = l.index-iterator in
+    l.run.items ++ close_between (g.C.Curve.meaning i.curve.now) i.threshold i.next i.end
+    ≡ close_between (g.C.Curve.meaning l.fn.curve) l.fn.threshold l.fn.from l.fn.to
