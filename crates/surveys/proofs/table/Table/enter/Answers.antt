@@ -1,4 +1,4 @@
-use Rattle.std.proofs.Common.{◌*◌, refl, ap, ◌∙◌, arith}
+use Rattle.std.proofs.Common.{◌*◌, ap, ◌∙◌, arith}
 use Rattle.surveys.specs.Books.{rises}
 use Rattle.surveys.specs.Tables.{book_in, states_of}
 use Rattle.surveys.specs.declared.state.State.TheVariants.{Settled}
@@ -29,13 +29,10 @@ invariant_of-self c =
     t.booked_lie_settled (block_is_there t b (omega arith) c.requires.there)) in
     record { some_length = t.some_length; few_blocks = t.few_blocks; few_booked = omega arith; book_rises = up; booked_lie_settled = lies }
 
-pub returns : goal.returns
-returns c =
-    let t = c.args.self.now in
-    record {
-      settles_the_block = one_is_set t c.args.block Settled;
-      puts_the_run_in =
-          run_is_put_in t c.args.block c.count_below-at.result c.args.run.now c.insert_run.new.book (omega arith)
-          c.count_below-at.ensures.are_those_below c.insert_run.ensures.the_run_stands_between;
-      keeps_the_terms = record { threshold = refl; block_length = refl; blocks = refl };
-    }
+pub returns-clause-settles_the_block : goal.returns-clause-settles_the_block
+returns-clause-settles_the_block c = one_is_set c.args.self.now c.args.block Settled
+
+pub returns-clause-puts_the_run_in : goal.returns-clause-puts_the_run_in
+returns-clause-puts_the_run_in c =
+    run_is_put_in c.args.self.now c.args.block c.count_below-at.result c.args.run.now c.insert_run.new.book (omega arith)
+    c.count_below-at.ensures.are_those_below c.insert_run.ensures.the_run_stands_between

@@ -13,9 +13,5 @@ invariant_of-self c =
     (lies_settled_still n (states_of t) b c.args.state (book_in t) c.requires.not_settled t.booked_lie_settled) in
     record { some_length = t.some_length; few_blocks = t.few_blocks; few_booked = t.few_booked; book_rises = t.book_rises; booked_lie_settled = lies }
 
-pub returns : goal.returns
-returns c = record {
-  moves_the_block = one_is_set c.args.self.now c.args.block c.args.state;
-  keeps_the_book = refl;
-  keeps_the_terms = record { threshold = refl; block_length = refl; blocks = refl };
-}
+pub returns-clause-moves_the_block : goal.returns-clause-moves_the_block
+returns-clause-moves_the_block c = one_is_set c.args.self.now c.args.block c.args.state

@@ -1,4 +1,4 @@
-use Rattle.std.proofs.Common.{◌+◌, ◌*◌, refl, ap, ◌∙◌, arith}
+use Rattle.std.proofs.Common.{◌+◌, ◌*◌, ap, ◌∙◌, arith}
 use Rattle.surveys.specs.Books.{rises}
 use Rattle.surveys.specs.Tables.{book_in, states_of}
 use Rattle.surveys.specs.declared.state.State.TheVariants.{Waiting}
@@ -53,14 +53,11 @@ invariant_of-self c =
     (taken_out_lies_settled n (states_of t) b Waiting (book_in t) t.some_length t.booked_lie_settled) in
     record { some_length = t.some_length; few_blocks = t.few_blocks; few_booked = omega arith; book_rises = up; booked_lie_settled = lies }
 
-pub returns : goal.returns
-returns c =
-    let t = c.args.self.now in
-    record {
-      lets_the_block_wait = one_is_set t c.args.block Waiting;
-      takes_its_indices_out =
-          block_is_taken_out t c.args.block c.count_below-from.result c.count_below-to.result c.remove_range.new.book
-          c.count_below-from.ensures.are_those_below c.count_below-to.ensures.are_those_below
-          c.remove_range.ensures.the_others_stand_together;
-      keeps_the_terms = record { threshold = refl; block_length = refl; blocks = refl };
-    }
+pub returns-clause-lets_the_block_wait : goal.returns-clause-lets_the_block_wait
+returns-clause-lets_the_block_wait c = one_is_set c.args.self.now c.args.block Waiting
+
+pub returns-clause-takes_its_indices_out : goal.returns-clause-takes_its_indices_out
+returns-clause-takes_its_indices_out c =
+    block_is_taken_out c.args.self.now c.args.block c.count_below-from.result c.count_below-to.result c.remove_range.new.book
+    c.count_below-from.ensures.are_those_below c.count_below-to.ensures.are_those_below
+    c.remove_range.ensures.the_others_stand_together
