@@ -14,7 +14,8 @@ fn is_close<C: Curve>(curve: &C, threshold: u64, index: u32) -> bool
     curve.value(index).is_some_and(|value| value < threshold)
 }
 
-/// Step by step from `from` on: behind what a step passes over, and behind a candidate whose value is not below the threshold.
+/// Step by step from `from` on: behind what a step passes over, and behind a candidate whose value is not below the threshold. A `while`,
+/// since only the step at a place says where the next one is taken.
 pub(crate) fn first_close<A: Arithmetic, C: Curve>(
     curve: &C,
     threshold: u64,

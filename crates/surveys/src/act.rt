@@ -1,4 +1,4 @@
-// What is done with a block.
+// What is done with a block. One table says where each act leads, and not a function for each act: so it is read whole beside its definition.
 ghost use Rattle.surveys.specs.States.{moved};
 ghost use Rattle.std.specs.Prelude.{◌≡◌};
 

@@ -1,4 +1,4 @@
-// What a survey keeps beside its curve.
+// What a survey keeps beside its curve. Arrays stand beside the numbers of their places in use, since a survey never allocates.
 ghost use Rattle.std.specs.Prelude.{◌≡◌, ◌≤◌, true, take};
 ghost use Rattle.surveys.specs.Books.{lies_settled, rises};
 

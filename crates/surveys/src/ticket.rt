@@ -3,7 +3,7 @@ ghost use Rattle.std.specs.Prelude.{◌≡◌, ◌≤◌};
 ghost use Rattle.surveys.specs.Gathered.{returning};
 
 /// The right to one block of a survey that is out. It comes only from issuing the block, and must be settled, worked or given back: letting
-/// it go requires a block that no survey has, since a survey has at most 256.
+/// it go requires a block that no survey has, since a survey has at most 256. So nothing is derived for it: a ticket is not copied.
 pub struct Ticket {
     survey: u32,
     block: u32,
