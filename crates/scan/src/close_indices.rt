@@ -44,6 +44,7 @@ impl<'c, A: Arithmetic, C: Curve> Iterator for CloseIndices<'c, A, C> {
 
     ghost remaining = { item_count (λ s. close_between (C.Curve.meaning s.curve.now) s.threshold s.next s.end) };
 
+    #[tactic(auto, using(crate::proofs::Left::least_first, crate::proofs::Left::none_is_left))]
     fn next(&mut self) -> Option<u32> {
         let index = first_close::<A, C>(self.curve, self.threshold, self.next, self.end)?;
         self.next = index + 1;
