@@ -10,7 +10,7 @@ impl Modulus {
     pub fn new(value: u64) -> Result<Modulus, ModulusRefusal>
         ensures made_within_the_limits { Made value result }
     {
-        if 2 <= value && value <= 1 << 40 {
+        if (2..=1 << 40).contains(&value) {
             Ok(Modulus { value })
         } else {
             Err(ModulusRefusal::OutsideLimits)
