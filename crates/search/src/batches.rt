@@ -3,6 +3,13 @@ ghost use Rattle.std.specs.Prelude.{◌≡◌, ◌+◌, ◌-◌, ◌*◌, ◌^�
 
 use lengths::arithmetic::Arithmetic;
 
+/// A batch of steps: how many, and the length that they leave.
+#[derive(Clone, Copy)]
+pub(crate) struct Batch<A> {
+    pub steps: u64,
+    pub rest: A,
+}
+
 /// How many steps that each add `by` points it takes to add `need` points.
 pub(crate) fn steps_for(need: u64, by: u64) -> u64
     requires { (1 ≤ need) × (1 ≤ by) }
@@ -20,24 +27,27 @@ fn is_nothing<A: Arithmetic>(length: A) -> bool
 }
 
 /// Takes `part` off `length` as often as it goes, at most `most` times: how often, and what is left.
-pub(crate) fn take_off<A: Arithmetic>(length: A, part: A, most: u64) -> (u64, A)
+pub(crate) fn take_off<A: Arithmetic>(length: A, part: A, most: u64) -> Batch<A>
     requires carried { A.units length ≤ A.largest }
-    ensures at_most { result.0 ≤ most }
-    ensures it_goes { result.0 * A.units part ≤ A.units length }
-    ensures the_rest { A.units result.1 ≡ A.units length - result.0 * A.units part }
-    ensures no_more { (result.0 ≡ most) ⊎ (A.units length < result.0 * A.units part + A.units part) }
+    ensures at_most { result.steps ≤ most }
+    ensures it_goes { result.steps * A.units part ≤ A.units length }
+    ensures the_rest { A.units result.rest ≡ A.units length - result.steps * A.units part }
+    ensures no_more { (result.steps ≡ most) ⊎ (A.units length < result.steps * A.units part + A.units part) }
 {
     if is_nothing(part) {
-        return (most, length);
+        return Batch {
+            steps: most,
+            rest: length,
+        };
     }
-    let (times, rest) = length.divide(part);
-    if times <= most {
-        (times, rest)
+    let (steps, rest) = length.divide(part);
+    if steps <= most {
+        Batch { steps, rest }
     } else {
-        (
-            most,
-            A::from_units(length.to_units() - most * part.to_units()),
-        )
+        Batch {
+            steps: most,
+            rest: A::from_units(length.to_units() - most * part.to_units()),
+        }
     }
 }
 
@@ -52,35 +62,41 @@ fn one_less<A: Arithmetic>(length: A, part: A, times: u64) -> u64
 }
 
 /// Takes `part` off `length`, which is longer, as often as something is left, at most `most` times: how often, and what is left.
-pub(crate) fn shorten<A: Arithmetic>(length: A, part: A, most: u64) -> (u64, A)
+pub(crate) fn shorten<A: Arithmetic>(length: A, part: A, most: u64) -> Batch<A>
     requires carried { A.units length ≤ A.largest }
     requires longer { A.units part < A.units length }
     requires some { 1 ≤ most }
-    ensures at_least_once { 1 ≤ result.0 }
-    ensures at_most { result.0 ≤ most }
-    ensures something_is_left { result.0 * A.units part < A.units length }
-    ensures the_rest { A.units result.1 ≡ A.units length - result.0 * A.units part }
+    ensures at_least_once { 1 ≤ result.steps }
+    ensures at_most { result.steps ≤ most }
+    ensures something_is_left { result.steps * A.units part < A.units length }
+    ensures the_rest { A.units result.rest ≡ A.units length - result.steps * A.units part }
 {
-    let (times, rest) = take_off(length, part, most);
-    if is_nothing(rest) {
-        (one_less(length, part, times), part)
+    let taken = take_off(length, part, most);
+    if is_nothing(taken.rest) {
+        Batch {
+            steps: one_less(length, part, taken.steps),
+            rest: part,
+        }
     } else {
-        (times, rest)
+        taken
     }
 }
 
 /// At which step of length `part` what is left of `length` is first at most `d`, and how much less than `d` it then is.
-pub(crate) fn first_within<A: Arithmetic>(length: A, d: A, part: A) -> (u64, A)
+pub(crate) fn first_within<A: Arithmetic>(length: A, d: A, part: A) -> Batch<A>
     requires longer { (A.units d < A.units length) × (A.units length ≤ 2 ^ 40) }
     requires some { 0 < A.units part }
-    ensures at_least_one { 1 ≤ result.0 }
-    ensures within_by_then { A.units result.1 + A.units length ≡ A.units d + result.0 * A.units part }
-    ensures not_before { A.units result.1 < A.units part }
+    ensures at_least_one { 1 ≤ result.steps }
+    ensures within_by_then { A.units result.rest + A.units length ≡ A.units d + result.steps * A.units part }
+    ensures not_before { A.units result.rest < A.units part }
 {
-    let (times, rest) = length.minus(d).divide(part);
+    let (steps, rest) = length.minus(d).divide(part);
     if is_nothing(rest) {
-        (times, rest)
+        Batch { steps, rest }
     } else {
-        (times + 1, part.minus(rest))
+        Batch {
+            steps: steps + 1,
+            rest: part.minus(rest),
+        }
     }
 }

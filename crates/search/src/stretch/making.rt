@@ -23,7 +23,7 @@ impl Stretch {
         if threshold > modulus {
             return Err(SearchRefusal::Threshold);
         }
-        if points < 1 || points > 1 << 20 {
+        if !(1..=1 << 20).contains(&points) {
             return Err(SearchRefusal::Points);
         }
         Ok(Stretch {

@@ -9,7 +9,7 @@ even l d p (suc q) r h e z = (omega arith, omega (arith, e.all))
 
 pub returns-then-is_nothing : goal.returns-then-is_nothing
 returns-then-is_nothing g c =
-    let d = divided _ _ _ _ c.requires.some c.divide-times.ensures.quotient_of_the_units c.divide-times.ensures.rest_of_the_units in
+    let d = divided _ _ _ _ c.requires.some c.divide-steps.ensures.quotient_of_the_units c.divide-steps.ensures.rest_of_the_units in
     let z = no_units _ c.if-is_nothing.ensures.tells_whether_it_has_units in
     let m = c.minus.ensures.units_less_the_other in
     let e = even (g.A.Arithmetic.units c.args.length) (g.A.Arithmetic.units c.args.d) _ _ _ c.requires.longer.0 (record { all = omega (arith, d.all, m); less = d.less }) z in
@@ -17,7 +17,7 @@ returns-then-is_nothing g c =
 
 pub returns-else-is_nothing : goal.returns-else-is_nothing
 returns-else-is_nothing g c =
-    let d = divided _ _ _ _ c.requires.some c.divide-times.ensures.quotient_of_the_units c.divide-times.ensures.rest_of_the_units in
+    let d = divided _ _ _ _ c.requires.some c.divide-steps.ensures.quotient_of_the_units c.divide-steps.ensures.rest_of_the_units in
     let z = some_units _ c.if-is_nothing.ensures.tells_whether_it_has_units in
     let m = c.minus.ensures.units_less_the_other in
     let w = c.minus-else-is_nothing.ensures.units_less_the_other in
