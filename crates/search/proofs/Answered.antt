@@ -141,6 +141,10 @@ two_walks M a b D n r d h l z f o =
         (λ (e : (r ≡ 1) × (d ≡ b - a) × (a ≤ b)). e.1 ∙ sym (at_one M a b l e.2) ∙ ap (distance M a b) (sym e.0))
         o
 
+-- a walk at the place that was made
+pub stands : {M a b D n : ℕ} {s t : Spot} → Walks M a b D n s → t ≡ s → Walks M a b D n t
+stands {M} {a} {b} {D} {n} w e = subst (Walks M a b D n) (sym e) w
+
 -- the walk has come to n
 pub walked : (M a b D n : ℕ) (s : Spot) → 0 < M → Walks M a b D n s → n ≤ s.u + s.v →
     answer M a b D n ≡ Clear (record { u = s.u; v = s.v; x = s.x; y = s.y; r = s.r })

@@ -2,7 +2,7 @@
 ghost use Rattle.std.specs.Prelude.{◌≡◌, ◌≤◌};
 ghost use Rattle.search.specs.Answers.{answer};
 ghost use Rattle.search.specs.Laws.{ConfigurationIsTheFirstLongEnough, ExactlyOneGapHoldsTheOffset};
-ghost use Rattle.search.specs.Walk.{Ended, Opened, Turned, Walking, spot, started};
+ghost use Rattle.search.specs.Walk.{Ended, Opened, spot, started};
 
 use crate::answer::Answer;
 use crate::evidence::Evidence;
@@ -62,19 +62,7 @@ impl<A: Arithmetic> Walk<A> {
         })
     }
 
-    /// One batch of steps, of the longer length.
-    fn turn(&self, s: Place<A>) -> ControlFlow<Hit, Place<A>>
-        requires under_way { Walking self.now.stretch (spot A.units s) }
-        ensures hits_or_goes_on { Turned A.units self.now.stretch (spot A.units s) result }
-    {
-        if s.y.less(s.x) {
-            self.shorten_x(s)
-        } else {
-            self.shorten_y(s)
-        }
-    }
-
-    /// The evidence for all the points, or the hit on the way.
+    /// The evidence for all the points, or the hit on the way: batch by batch of steps, each of the longer length.
     fn to_the_end(&self) -> ControlFlow<Hit, Evidence>
         requires two_points { 2 ≤ self.now.stretch.points }
         requires zero_is_not_close { self.now.stretch.threshold ≤ self.now.stretch.offset }
@@ -82,7 +70,11 @@ impl<A: Arithmetic> Walk<A> {
     {
         let mut s = self.second_place()?;
         while s.u + s.v < self.stretch.points {
-            s = self.turn(s)?;
+            s = if s.y.less(s.x) {
+                self.shorten_x(s)?
+            } else {
+                self.shorten_y(s)?
+            };
         }
         ControlFlow::Continue(s.evidence())
     }
