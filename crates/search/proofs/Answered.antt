@@ -94,9 +94,6 @@ one_held M a b h l =
       inside = omega (arith, at_zero M a b l, gap_is 1 (start M a) 0);
     }
 
-pub one_clear : (M a b D : ℕ) → a < M → b < M → D ≤ b → answer M a b D 1 ≡ Clear (record { u = 1; v = 1; x = a; y = M - a; r = 0 })
-one_clear M a b D h l f = clear_is M a b D 1 (start M a) 0 (omega arith) refl (one_held M a b h l) (omega (arith, at_zero M a b l))
-
 pub one_close : (M a b D n : ℕ) → a < M → b < M → 2 ≤ n → D ≤ b → a ≤ b → b - a < D → Hits M a b D n 1 (b - a) (record { u = 1; v = 1; x = a; y = M - a; r = 0 })
 one_close M a b D n h l z f g c =
     record {

@@ -1,6 +1,7 @@
 -- A batch of steps with x > y, which shorten x.
 use Rattle.std.proofs.Common.{◌≡◌, ℕ, zero, suc, ◌+◌, ◌-◌, ◌*◌, ◌<◌, ◌≤◌, min, ◌⊎◌, sym, ap, ◌∙◌, subst, subst₂, inl, inr, ⊎_elim, mul-le-mul_right, arith}
 use Rattle.std.proofs.lemmas.Bool.{cases_lt}
+use Rattle.search.proofs.Batching.{less_one, few_more}
 use Rattle.search.proofs.Sound.{gap_is, nearest}
 use Rattle.search.proofs.Complete.{up_x}
 use Rattle.search.proofs.Reach.{arrive, lowered, along_l, onto_l, shares_l}
@@ -22,13 +23,6 @@ inside_is M a b D n s w l =
           (cases_lt s.r s.u),
       omega (arith, w.held.below),
     )
-
--- the same, with p = q − 1
-less_one : (u n p : ℕ) → (suc p - 1) * u < n → p * u < n
-less_one u n p h = let e : suc p - 1 ≡ p = omega arith in omega (arith, ap (λ m. m * u) e)
-
-abbrev low : Spot → ℕ → ℕ → ℕ → Spot
-low s q r d = record { u = s.u; v = s.v + q * s.u; x = s.x - q * s.y; y = s.y; r = r; d = d }
 
 pub goes_l : (M a b D n : ℕ) (s : Spot) (q r d : ℕ) → Walks M a b D n s → s.u + s.v < n → ShortensX n s q →
     r < n → r < s.u + (s.v + q * s.u) → d ≡ distance M a b r → D ≤ d →
@@ -179,8 +173,7 @@ hit_later M a b D n s q (suc t) h w l c m o f z =
 -- ---- the same in the numbers that the code has: what is left of x, and the distance w after the move
 
 pub small_l : (n : ℕ) (s : Spot) (q : ℕ) → ShortensX n s q → q * s.u < n + s.u
-small_l n s zero t = absurd (omega (arith, t.some))
-small_l n s (suc p) t = let m = less_one s.u (n - (s.u + s.v)) p t.few in omega arith
+small_l n s q t = omega (arith, few_more s.u (n - (s.u + s.v)) q t.some t.few)
 
 pub stays_l : (M a b D n : ℕ) (s : Spot) (q x : ℕ) → Walks M a b D n s → s.u + s.v < n → ShortensX n s q → x ≡ s.x - q * s.y →
     (s.u ≤ s.r) ⊎ (s.d < x) →
@@ -188,10 +181,6 @@ pub stays_l : (M a b D n : ℕ) (s : Spot) (q x : ℕ) → Walks M a b D n s →
 stays_l M a b D n s q x w l t e o =
     subst (λ z. Goes M a b D n s (record { u = s.u; v = s.v + q * s.u; x = z; y = s.y; r = s.r; d = s.d })) (sym e)
     (stay M a b D n s q w l t (⊎_elim inl (λ (h : s.d < x). inr (omega arith)) o))
-
-pub some_y : (x y q d : ℕ) → d < x → x - q * y ≤ d → 0 < y
-some_y x zero q d h l = absurd (omega arith)
-some_y x (suc y) q d h l = omega arith
 
 pub moves_l : (s : Spot) (q i w : ℕ) → s.r < s.u → s.x - q * s.y ≤ s.d → w + s.x ≡ s.d + i * s.y → w < s.y → MovesX s q i
 moves_l s q i w h p z l = record { left = h; passed = omega arith; from = omega arith; to = omega arith }

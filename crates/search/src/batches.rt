@@ -1,5 +1,5 @@
 // Many steps at once, by division with rest.
-ghost use Rattle.std.specs.Prelude.{◌≡◌, ◌+◌, ◌-◌, ◌*◌, ◌^◌, ◌<◌, ◌≤◌, ◌⊎◌, ◌==◌};
+ghost use Rattle.std.specs.Prelude.{◌≡◌, ◌+◌, ◌-◌, ◌*◌, ◌^◌, ◌<◌, ◌≤◌, ◌⊎◌, MatchBool};
 
 use lengths::arithmetic::Arithmetic;
 
@@ -21,7 +21,7 @@ pub(crate) fn steps_for(need: u64, by: u64) -> u64
 
 /// Whether the length has no units: then it is not more than itself less itself.
 fn is_nothing<A: Arithmetic>(length: A) -> bool
-    ensures tells_whether_it_has_units { result ≡ (A.units length == 0) }
+    ensures tells_whether_it_has_units { MatchBool result (A.units length ≡ 0) (0 < A.units length) }
 {
     !length.minus(length).less(length)
 }
@@ -51,16 +51,6 @@ pub(crate) fn take_off<A: Arithmetic>(length: A, part: A, most: u64) -> Batch<A>
     }
 }
 
-/// One part less, where the parts use up a longer length: it leaves that part.
-fn one_less<A: Arithmetic>(length: A, part: A, times: u64) -> u64
-    requires used_up { times * A.units part ≡ A.units length }
-    requires longer { A.units part < A.units length }
-    ensures at_least_one { (1 ≤ result) × (result ≤ times) }
-    ensures leaves_a_part { (result * A.units part < A.units length) × (A.units part ≡ A.units length - result * A.units part) }
-{
-    times - 1
-}
-
 /// Takes `part` off `length`, which is longer, as often as something is left, at most `most` times: how often, and what is left.
 pub(crate) fn shorten<A: Arithmetic>(length: A, part: A, most: u64) -> Batch<A>
     requires carried { A.units length ≤ A.largest }
@@ -74,7 +64,7 @@ pub(crate) fn shorten<A: Arithmetic>(length: A, part: A, most: u64) -> Batch<A>
     let taken = take_off(length, part, most);
     if is_nothing(taken.rest) {
         Batch {
-            steps: one_less(length, part, taken.steps),
+            steps: taken.steps - 1,
             rest: part,
         }
     } else {

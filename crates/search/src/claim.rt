@@ -1,5 +1,5 @@
 // The claim that five numbers vouch for the points of a stretch, and its test.
-ghost use Rattle.std.specs.Prelude.{◌≡◌, T, MatchOption};
+ghost use Rattle.std.specs.Prelude.{◌≡◌, T, ◌↔◌, MatchOption};
 ghost use Rattle.search.specs.Configurations.{gap};
 ghost use Rattle.search.specs.Laws.{NumbersVouchExactlyWhenNoPointIsClose, VouchingNumbersGiveTheLeastDistance};
 ghost use Rattle.search.specs.Vouching.{Vouches, Within, Fills, Clears, config_of, vouching};
@@ -28,7 +28,7 @@ struct Limited {
 impl Limited {
     /// Whether the gaps u times x and v times y fill the circle, as steps of the slope.
     fn fills(self) -> bool
-        ensures true_exactly_when_they_fill_the_circle { (T result → Fills self.claim.modulus.value self.claim.slope self.claim.numbers) × (Fills self.claim.modulus.value self.claim.slope self.claim.numbers → T result) }
+        ensures true_exactly_when_they_fill_the_circle { T result ↔ Fills self.claim.modulus.value self.claim.slope self.claim.numbers }
     {
         let Claim { modulus, slope, .. } = self.claim;
         let Evidence { u, v, x, y, .. } = self.claim.numbers;
@@ -53,7 +53,7 @@ impl Limited {
 
     /// Whether the offset lies the threshold or more above point r, and in the gap after it.
     fn clears(self) -> bool
-        ensures true_exactly_when_the_offset_is_clear { (T result → Clears self.claim.modulus.value self.claim.slope self.claim.offset self.claim.threshold self.claim.points self.claim.numbers) × (Clears self.claim.modulus.value self.claim.slope self.claim.offset self.claim.threshold self.claim.points self.claim.numbers → T result) }
+        ensures true_exactly_when_the_offset_is_clear { T result ↔ Clears self.claim.modulus.value self.claim.slope self.claim.offset self.claim.threshold self.claim.points self.claim.numbers }
     {
         let Claim {
             modulus,
@@ -91,14 +91,14 @@ impl Claim {
 
     /// Whether the numbers vouch.
     fn is_met(self) -> bool
-        ensures true_exactly_when_they_vouch { (T result → Vouches self.modulus.value self.slope self.offset self.threshold self.points self.numbers) × (Vouches self.modulus.value self.slope self.offset self.threshold self.points self.numbers → T result) }
+        ensures true_exactly_when_they_vouch { T result ↔ Vouches self.modulus.value self.slope self.offset self.threshold self.points self.numbers }
     {
         self.limited().is_some_and(|l| l.fills() && l.clears())
     }
 
     /// The same, with the laws that make the numbers worth asking for.
     pub fn holds(self) -> bool
-        ensures true_exactly_when_they_vouch { (T result → Vouches self.modulus.value self.slope self.offset self.threshold self.points self.numbers) × (Vouches self.modulus.value self.slope self.offset self.threshold self.points self.numbers → T result) }
+        ensures true_exactly_when_they_vouch { T result ↔ Vouches self.modulus.value self.slope self.offset self.threshold self.points self.numbers }
         ensures is_the_test_of_the_numbers { result ≡ vouching self.modulus.value self.slope self.offset self.threshold self.points self.numbers }
         ensures vouching_numbers_give_the_least_distance { VouchingNumbersGiveTheLeastDistance }
         ensures numbers_vouch_exactly_when_no_point_is_close { NumbersVouchExactlyWhenNoPointIsClose }

@@ -17,7 +17,7 @@ impl Modulus {
         }
     }
 
-    /// The modulus as a number.
+    /// The modulus as a number; `new` and `get` have the form that std's `NonZero` has.
     pub fn get(self) -> u64
         ensures is_the_value { result ≡ self.value }
     {

@@ -1,4 +1,4 @@
-use Rattle.std.proofs.Common.{◌<◌, inl, inr, arith}
+use Rattle.std.proofs.Common.{inl, inr, arith}
 use Rattle.search.proofs.Batching.{is_less, is_not_less}
 use Rattle.search.proofs.ShorterX.{stays_l, moved_l, late_l, hits_l, told}
 use Rattle.search.specs.Walk.{spot}

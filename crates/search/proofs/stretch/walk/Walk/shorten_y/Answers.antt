@@ -1,7 +1,7 @@
-use Rattle.std.proofs.Common.{ap, subst, sym, inl, inr, arith}
+use Rattle.std.proofs.Common.{inl, inr, arith}
 use Rattle.search.proofs.Batching.{is_not_less}
-use Rattle.search.proofs.ShorterY.{stays_r, moved_r, near_r, hits_r}
-use Rattle.search.specs.Walk.{HitsOn, spot}
+use Rattle.search.proofs.ShorterY.{stays_r, moved_r, near_r, hits_r, hit_told}
+use Rattle.search.specs.Walk.{spot}
 use Rattle.search.proofs.stretch.walk.Walk.shorten_y.Goals as goal
 use Rattle.search.proofs.stretch.walk.Walk.shorten_y.Goals.{then-s-2, else-s-2}
 
@@ -27,13 +27,14 @@ returns-then-less g c =
     let w = c.requires.under_way in
     let t = c.args.self.now.stretch in
     record {
-      hits_or_goes_on = subst (HitsOn t) (sym c.hit_after.ensures.the_next_point_with_evidence)
+      hits_or_goes_on = hit_told t
           (hits_r _ _ _ _ _ (spot g.A.Arithmetic.units c.args.s) _ _ _ _ (omega (arith, t.modulus.within)) w.walks w.unfinished c.batch_y-batch.ensures.steps_of_y
           c.moves_y-moves.ensures.the_moves c.moves_before-g.ensures.one_more_is_close
           (elim c.if-s-2.branch [
             | then-s-2 w ↦ inl (omega (arith, w.if-s-2), omega (arith, w.i-is))
             | else-s-2 w ↦ inr (omega (arith, w.if-s-2, c.if-s.false), omega (arith, w.i-is))
-          ]));
+          ]))
+          c.hit_after.ensures.the_next_point_with_evidence;
     }
 
 pub returns : goal.returns
