@@ -17,7 +17,7 @@ few_steps need by most q f h =
 pub less_one : (u n p : ℕ) → (suc p - 1) * u < n → p * u < n
 less_one u n p h = let e : suc p - 1 ≡ p = omega arith in omega (arith, ap (λ m. m * u) e)
 
--- so all of them add less than that and one step more
-pub few_more : (u n q : ℕ) → 1 ≤ q → (q - 1) * u < n → q * u < n + u
-few_more u n zero h f = absurd (omega arith)
-few_more u n (suc p) h f = omega (arith, less_one u n p f)
+-- so they add less than was needed and one step more
+pub few_added : (need by most q : ℕ) → (most - 1) * by < need → q ≤ most → q * by < need + by
+few_added need by most zero f h = omega arith
+few_added need by most (suc p) f h = omega (arith, less_one by need p (few_steps need by most (suc p) f h))

@@ -1,7 +1,7 @@
 -- A batch of steps with x > y, which shorten x.
 use Rattle.std.proofs.Common.{◌≡◌, ℕ, zero, suc, ◌+◌, ◌-◌, ◌*◌, ◌<◌, ◌≤◌, min, ◌⊎◌, sym, ap, ◌∙◌, subst, subst₂, inl, inr, ⊎_elim, mul-le-mul_right, arith}
 use Rattle.std.proofs.lemmas.Bool.{cases_lt}
-use Rattle.search.proofs.Batching.{less_one, few_more}
+use Rattle.search.proofs.Batching.{less_one, few_added}
 use Rattle.search.proofs.Sound.{gap_is, nearest}
 use Rattle.search.proofs.Complete.{up_x}
 use Rattle.search.proofs.Reach.{arrive, lowered, along_l, onto_l, shares_l}
@@ -173,7 +173,7 @@ hit_later M a b D n s q (suc t) h w l c m o f z =
 -- ---- the same in the numbers that the code has: what is left of x, and the distance w after the move
 
 pub small_l : (n : ℕ) (s : Spot) (q : ℕ) → ShortensX n s q → q * s.u < n + s.u
-small_l n s q t = omega (arith, few_more s.u (n - (s.u + s.v)) q t.some t.few)
+small_l n s q t = omega (arith, few_added (n - (s.u + s.v)) s.u q q t.few (omega arith))
 
 pub stays_l : (M a b D n : ℕ) (s : Spot) (q x : ℕ) → Walks M a b D n s → s.u + s.v < n → ShortensX n s q → x ≡ s.x - q * s.y →
     (s.u ≤ s.r) ⊎ (s.d < x) →
