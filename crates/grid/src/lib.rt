@@ -14,7 +14,10 @@ mod tests {
         assert_eq!(rt; Modulus::new(2)?.get(), 2);
         assert_eq!(rt; Modulus::new(1 << 40)?.get(), 1 << 40);
         assert_eq!(rt; Modulus::new(1), Err(ModulusRefusal::OutsideLimits));
-        assert_eq!(rt; Modulus::new((1 << 40) + 1), Err(ModulusRefusal::OutsideLimits));
+        assert_eq!(rt;
+            Modulus::new((1 << 40) + 1),
+            Err(ModulusRefusal::OutsideLimits)
+        );
         assert_eq!(rt; ModulusRefusal::OutsideLimits.number(), 1);
         Ok(())
     }

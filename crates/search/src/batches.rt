@@ -63,6 +63,7 @@ pub(crate) fn shorten<A: Arithmetic>(length: A, part: A, most: u64) -> Batch<A>
 {
     let taken = take_off(length, part, most);
     if is_nothing(taken.rest) {
+        // the last part stays
         Batch {
             steps: taken.steps - 1,
             rest: part,

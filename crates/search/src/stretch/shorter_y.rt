@@ -1,4 +1,5 @@
-// A batch of steps that shorten y.
+// A batch of steps that shorten y. It does not mirror that of x: something of x has to be left and the point moves once, while y may be used
+// up and the point moves with each step.
 ghost use Rattle.std.specs.Prelude.{◌≡◌, ◌+◌, ◌-◌, ◌*◌, ◌^◌, ◌<◌, ◌≤◌};
 ghost use Rattle.search.specs.Walk.{ClosesY, MovesY, ShortensY, Turned, Walking, shorter_y, spot};
 
