@@ -21,3 +21,17 @@ less_one u n p h = let e : suc p - 1 ≡ p = omega arith in omega (arith, ap (λ
 pub few_added : (need by most q : ℕ) → (most - 1) * by < need → q ≤ most → q * by < need + by
 few_added need by most zero f h = omega arith
 few_added need by most (suc p) f h = omega (arith, less_one by need p (few_steps need by most (suc p) f h))
+
+-- one part less than those that use up a longer length leaves that part
+pub one_less : (l p q : ℕ) → q * p ≤ l → l ≤ q * p → p < l → ((q - 1) * p < l) × (p ≡ l - (q - 1) * p)
+one_less l p zero w e h = absurd (omega arith)
+one_less l zero (suc q) w e h = absurd (omega arith)
+one_less l (suc p) (suc q) w e h =
+    let f = ap (λ n. n * suc p) (let s : suc q - 1 ≡ q = omega arith in s) in
+    (omega (arith, f), omega (arith, f))
+
+pub one_less_fits : (l p q : ℕ) → q * p ≤ l → l ≤ q * p → p < l → (q - 1) * p < l
+one_less_fits l p q w e h = (one_less l p q w e h).0
+
+pub one_less_leaves : (l p q : ℕ) → q * p ≤ l → l ≤ q * p → p < l → p ≡ l - (q - 1) * p
+one_less_leaves l p q w e h = (one_less l p q w e h).1

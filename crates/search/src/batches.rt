@@ -52,6 +52,7 @@ pub(crate) fn take_off<A: Arithmetic>(length: A, part: A, most: u64) -> Batch<A>
 }
 
 /// Takes `part` off `length`, which is longer, as often as something is left, at most `most` times: how often, and what is left.
+#[tactic(auto, using(crate::proofs::Batching::one_less_fits, crate::proofs::Batching::one_less_leaves))]
 pub(crate) fn shorten<A: Arithmetic>(length: A, part: A, most: u64) -> Batch<A>
     requires carried { A.units length ≤ A.largest }
     requires longer { A.units part < A.units length }

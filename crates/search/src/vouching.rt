@@ -7,7 +7,8 @@ use crate::claim::Claim;
 use crate::evidence::Evidence;
 use grid::modulus::Modulus;
 
-/// Whether the five numbers vouch that no (offset − k·slope) mod modulus for k below `points` is less than the threshold.
+/// Whether the five numbers vouch that no (offset − k·slope) mod modulus for k below `points` is less than the threshold. Callers have the
+/// numbers in structs of their own, so they are parameters here and a claim within.
 pub fn vouches(
     modulus: Modulus,
     slope: u64,
