@@ -13,8 +13,11 @@ mod tests {
     fn only_2_to_2_to_the_40_make_a_modulus(rt: HostRuntime) -> Result<(), Fail> {
         assert_eq!(rt; Modulus::new(2)?.get(), 2);
         assert_eq!(rt; Modulus::new(1 << 40)?.get(), 1 << 40);
-        assert!(rt; Modulus::new(1).is_err());
-        assert!(rt; Modulus::new((1 << 40) + 1).is_err());
+        assert_eq!(rt; Modulus::new(1), Err(ModulusRefusal::OutsideLimits));
+        assert_eq!(rt;
+            Modulus::new((1 << 40) + 1),
+            Err(ModulusRefusal::OutsideLimits)
+        );
         assert_eq!(rt; ModulusRefusal::OutsideLimits.number(), 1);
         Ok(())
     }

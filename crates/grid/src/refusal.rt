@@ -10,7 +10,7 @@ pub enum ModulusRefusal {
 }
 
 impl ModulusRefusal {
-    /// The number that a refused line prints.
+    /// The number that a refused line prints: which number is which refusal's is a rule, so a match says it.
     pub fn number(self) -> u32
         ensures is_the_refusals_number { result ≡ number_of self }
     {

@@ -7,7 +7,7 @@ ghost use Rattle.lengths.specs.Whole.{units_of, WholeUpTo};
 use crate::arithmetic::Arithmetic;
 
 /// A whole number of units, from 0 to 2^40, kept in a float.
-#[derive(Clone, Copy)]
+#[derive(Clone, Copy, PartialEq, Debug)]
 pub struct Double {
     units: f64,
     ghost whole: { WholeUpTo binary64 (2 ^ 40) units },

@@ -94,9 +94,6 @@ one_held M a b h l =
       inside = omega (arith, at_zero M a b l, gap_is 1 (start M a) 0);
     }
 
-pub one_clear : (M a b D : ℕ) → a < M → b < M → D ≤ b → answer M a b D 1 ≡ Clear (record { u = 1; v = 1; x = a; y = M - a; r = 0 })
-one_clear M a b D h l f = clear_is M a b D 1 (start M a) 0 (omega arith) refl (one_held M a b h l) (omega (arith, at_zero M a b l))
-
 pub one_close : (M a b D n : ℕ) → a < M → b < M → 2 ≤ n → D ≤ b → a ≤ b → b - a < D → Hits M a b D n 1 (b - a) (record { u = 1; v = 1; x = a; y = M - a; r = 0 })
 one_close M a b D n h l z f g c =
     record {
@@ -140,6 +137,10 @@ two_walks M a b D n r d h l z f o =
         (λ (e : (r ≡ 0) × (d ≡ b) × (b < a)). e.1 ∙ sym (at_zero M a b l) ∙ ap (distance M a b) (sym e.0))
         (λ (e : (r ≡ 1) × (d ≡ b - a) × (a ≤ b)). e.1 ∙ sym (at_one M a b l e.2) ∙ ap (distance M a b) (sym e.0))
         o
+
+-- a walk at the place that was made
+pub stands : {M a b D n : ℕ} {s t : Spot} → Walks M a b D n s → t ≡ s → Walks M a b D n t
+stands {M} {a} {b} {D} {n} w e = subst (Walks M a b D n) (sym e) w
 
 -- the walk has come to n
 pub walked : (M a b D n : ℕ) (s : Spot) → 0 < M → Walks M a b D n s → n ≤ s.u + s.v →

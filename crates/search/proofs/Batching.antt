@@ -1,27 +1,5 @@
--- Division with rest, as the batches use it.
-use Rattle.std.proofs.Common.{◌≡◌, ℕ, zero, suc, ◌+◌, ◌-◌, ◌*◌, ◌/◌, ◌%◌, ◌<◌, ◌≤◌, Bool, true, false, eqb, ltb, sym, refl, ap, ◌∙◌, mul-le-mul_right, mod-lt, div-add-mod', arith, ltb-false, ltb-true, eqb-true}
-use borrow.Author.Tests.{eqb-false}
-
-pub no_units : (n : ℕ) → true ≡ eqb n 0 → n ≡ 0
-no_units n e = eqb-true n 0 (sym e)
-
-pub some_units : (n : ℕ) → false ≡ eqb n 0 → 0 < n
-some_units zero e = absurd (eqb-false 0 0 (sym e) (omega arith))
-some_units (suc n) e = omega arith
-
--- q parts p of a length l, and the rest r that is less than one
-pub record Divided (l p q r : ℕ) : Type 0 where
-  pub all : q * p + r ≡ l
-  pub less : r < p
-
-pub divided : (l p q r : ℕ) → 0 < p → q ≡ l / p → r ≡ l % p → Divided l p q r
-divided l p q r h e f =
-    record { all = ap (λ n. n * p + r) e ∙ ap (λ n. l / p * p + n) f ∙ div-add-mod' l p; less = omega (arith, f, mod-lt l h) }
-
--- fewer parts than go into a length are no more than it
-pub fewer_fit : (l p m q : ℕ) → 0 < p → q ≡ l / p → m < q → m * p ≤ l
-fewer_fit l p m q h e f =
-    let d = divided l p q (l % p) h e refl in omega (arith, d.all, mul-le-mul_right p f)
+-- Batches of steps in the numbers that the code has.
+use Rattle.std.proofs.Common.{◌≡◌, ℕ, zero, suc, ◌+◌, ◌-◌, ◌*◌, ◌<◌, ◌≤◌, Bool, true, false, ltb, sym, ap, ◌∙◌, mul-le-mul_right, arith, ltb-false, ltb-true}
 
 -- what a test by an arithmetic's order tells of the units
 pub is_less : (t : Bool) (m n : ℕ) → t ≡ ltb m n → true ≡ t → m < n
@@ -34,3 +12,26 @@ is_not_less t m n e f = ltb-false m n (sym (f ∙ e))
 pub few_steps : (need by most q : ℕ) → (most - 1) * by < need → q ≤ most → (q - 1) * by < need
 few_steps need by most q f h =
     let l : q - 1 ≤ most - 1 = omega arith in omega (arith, f, mul-le-mul_right by l)
+
+-- the same where the steps are at least one
+pub less_one : (u n p : ℕ) → (suc p - 1) * u < n → p * u < n
+less_one u n p h = let e : suc p - 1 ≡ p = omega arith in omega (arith, ap (λ m. m * u) e)
+
+-- so they add less than was needed and one step more
+pub few_added : (need by most q : ℕ) → (most - 1) * by < need → q ≤ most → q * by < need + by
+few_added need by most zero f h = omega arith
+few_added need by most (suc p) f h = omega (arith, less_one by need p (few_steps need by most (suc p) f h))
+
+-- one part less than those that use up a longer length leaves that part
+pub one_less : (l p q : ℕ) → q * p ≤ l → l ≤ q * p → p < l → ((q - 1) * p < l) × (p ≡ l - (q - 1) * p)
+one_less l p zero w e h = absurd (omega arith)
+one_less l zero (suc q) w e h = absurd (omega arith)
+one_less l (suc p) (suc q) w e h =
+    let f = ap (λ n. n * suc p) (let s : suc q - 1 ≡ q = omega arith in s) in
+    (omega (arith, f), omega (arith, f))
+
+pub one_less_fits : (l p q : ℕ) → q * p ≤ l → l ≤ q * p → p < l → (q - 1) * p < l
+one_less_fits l p q w e h = (one_less l p q w e h).0
+
+pub one_less_leaves : (l p q : ℕ) → q * p ≤ l → l ≤ q * p → p < l → p ≡ l - (q - 1) * p
+one_less_leaves l p q w e h = (one_less l p q w e h).1

@@ -1,6 +1,6 @@
 -- The configuration for n shares out the circle, and some r below n has b in its gap.
-use Rattle.std.proofs.Common.{◌≡◌, ℕ, zero, suc, ◌+◌, ◌-◌, ◌*◌, ◌<◌, ◌≤◌, Bool, true, false, ltb, leb, sym, refl, ap, subst, ⊎_elim, arith}
-use Rattle.std.proofs.lemmas.Bool.{cases_lt, cases_order, ltb-true, ltb-false, leb-true, leb-false}
+use Rattle.std.proofs.Common.{◌≡◌, ℕ, zero, suc, ◌+◌, ◌-◌, ◌*◌, ◌<◌, ◌≤◌, Bool, true, false, ltb, leb, refl, ap, subst, ⊎_elim, below_more, arith}
+use Rattle.std.proofs.lemmas.Bool.{cases_lt, ltb-true, ltb-false, leb-true, leb-false}
 use Rattle.search.proofs.Distances.{distance_is, distance_at}
 use Rattle.search.proofs.Sound.{gap_is}
 use Rattle.search.specs.Walk.{Shares, Holds}
@@ -14,9 +14,9 @@ First f n = (r : ℕ) × (r < n) × ((k : ℕ) → k < n → f r ≤ f k) × ((k
 abbrev pub Last : (f : ℕ → ℕ) (n : ℕ) → Type 0
 Last f n = (r : ℕ) × (r < n) × ((k : ℕ) → k < n → f r ≤ f k) × ((k : ℕ) → k < n → r < k → f r < f k)
 
+-- std's `below_more` for the next number as suc n
 pub below_suc : {P : ℕ → Type 0} (n : ℕ) → ((k : ℕ) → k < n → P k) → P n → (k : ℕ) → k < suc n → P k
-below_suc {P} n f g k l =
-    ⊎_elim (λ e. subst P (sym e) g) (λ o. f k (⊎_elim (λ (z : k < n). z) (λ z. absurd (omega arith)) o)) (cases_order k n)
+below_suc {P} n f g k l = below_more P n f g k (omega arith)
 
 pub first : (f : ℕ → ℕ) (n : ℕ) → First f (suc n)
 first f zero = (0, omega arith, λ k l. subst (λ m. f 0 ≤ f m) (zero_is k l) (omega arith), λ k l. absurd (omega arith))

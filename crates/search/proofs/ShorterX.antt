@@ -1,12 +1,13 @@
 -- A batch of steps with x > y, which shorten x.
 use Rattle.std.proofs.Common.{◌≡◌, ℕ, zero, suc, ◌+◌, ◌-◌, ◌*◌, ◌<◌, ◌≤◌, min, ◌⊎◌, sym, ap, ◌∙◌, subst, subst₂, inl, inr, ⊎_elim, mul-le-mul_right, arith}
 use Rattle.std.proofs.lemmas.Bool.{cases_lt}
+use Rattle.search.proofs.Batching.{less_one, few_added}
 use Rattle.search.proofs.Sound.{gap_is, nearest}
 use Rattle.search.proofs.Complete.{up_x}
 use Rattle.search.proofs.Reach.{arrive, lowered, along_l, onto_l, shares_l}
 use Rattle.search.specs.Points.{distance}
 use Rattle.search.specs.Configurations.{gap}
-use Rattle.search.specs.Walk.{Spot, Holds, Towards, Walks, Hits, Goes, placed, shorter_x}
+use Rattle.search.specs.Walk.{ShortensX, MovesX, Spot, Holds, Towards, Walks, Hits, Goes, placed, shorter_x}
 use Rattle.search.specs.declared.evidence.Evidence.{Evidence}
 
 -- where b lies: in an x gap or in a y gap
@@ -23,20 +24,7 @@ inside_is M a b D n s w l =
       omega (arith, w.held.below),
     )
 
--- q steps are taken
-pub record BatchL (n : ℕ) (s : Spot) (q : ℕ) : Type 0 where
-  pub some : 1 ≤ q
-  pub few : (q - 1) * s.u < n - (s.u + s.v)
-  pub within : q * s.y < s.x
-
--- the same, with p = q − 1
-less_one : (u n p : ℕ) → (suc p - 1) * u < n → p * u < n
-less_one u n p h = let e : suc p - 1 ≡ p = omega arith in omega (arith, ap (λ m. m * u) e)
-
-abbrev low : Spot → ℕ → ℕ → ℕ → Spot
-low s q r d = record { u = s.u; v = s.v + q * s.u; x = s.x - q * s.y; y = s.y; r = r; d = d }
-
-pub goes_l : (M a b D n : ℕ) (s : Spot) (q r d : ℕ) → Walks M a b D n s → s.u + s.v < n → BatchL n s q →
+pub goes_l : (M a b D n : ℕ) (s : Spot) (q r d : ℕ) → Walks M a b D n s → s.u + s.v < n → ShortensX n s q →
     r < n → r < s.u + (s.v + q * s.u) → d ≡ distance M a b r → D ≤ d →
     distance M a b r < gap (min n (s.u + (s.v + q * s.u))) (lowered (placed s) q) r →
     Goes M a b D n s (record { u = s.u; v = s.v + q * s.u; x = s.x - q * s.y; y = s.y; r = r; d = d })
@@ -66,7 +54,7 @@ goes_l M a b D n s (suc p) r d w l t e f g z i =
     }
 
 -- b's point stays
-stay : (M a b D n : ℕ) (s : Spot) (q : ℕ) → Walks M a b D n s → s.u + s.v < n → BatchL n s q →
+stay : (M a b D n : ℕ) (s : Spot) (q : ℕ) → Walks M a b D n s → s.u + s.v < n → ShortensX n s q →
     (s.u ≤ s.r) ⊎ (s.d < s.x - q * s.y) →
     Goes M a b D n s (record { u = s.u; v = s.v + q * s.u; x = s.x - q * s.y; y = s.y; r = s.r; d = s.d })
 stay M a b D n s q w l t o =
@@ -74,22 +62,15 @@ stay M a b D n s q w l t o =
     goes_l M a b D n s q s.r s.d w l t (omega arith) (omega arith) w.d_is w.far
     (omega (arith, i, o, gap_is (min n (s.u + (s.v + q * s.u))) (lowered (placed s) q) s.r, w.d_is))
 
--- it moves at the i-th step
-pub record MovesL (s : Spot) (q i : ℕ) : Type 0 where
-  pub left : s.r < s.u
-  pub passed : s.x - q * s.y ≤ s.d
-  pub from : s.x ≤ s.d + i * s.y
-  pub to : s.d + i * s.y < s.x + s.y
-
-pub in_batch : (s : Spot) (q i : ℕ) → q * s.y < s.x → MovesL s q i → i ≤ q
+pub in_batch : (s : Spot) (q i : ℕ) → q * s.y < s.x → MovesX s q i → i ≤ q
 in_batch s q i h m =
     ⊎_elim (λ (z : q < i). absurd (omega (arith, mul-le-mul_right s.y z, m.to, m.passed))) (λ z. z) (cases_lt q i)
 
-pub some_move : (s : Spot) (q i : ℕ) → s.d < s.x → MovesL s q i → 1 ≤ i
+pub some_move : (s : Spot) (q i : ℕ) → s.d < s.x → MovesX s q i → 1 ≤ i
 some_move s q zero h m = absurd (omega (arith, m.from))
 some_move s q (suc i) h m = omega arith
 
-moved_to : (M a b D n : ℕ) (s : Spot) (q i : ℕ) → 0 < M → Walks M a b D n s → BatchL n s q → MovesL s q i →
+moved_to : (M a b D n : ℕ) (s : Spot) (q i : ℕ) → 0 < M → Walks M a b D n s → ShortensX n s q → MovesX s q i →
     distance M a b (s.r + s.v + i * s.u) ≡ s.d - (s.x - i * s.y)
 moved_to M a b D n s q i h w t m =
     let e : s.r + s.v + i * s.u ≡ s.r + (s.v + i * s.u) = omega arith in
@@ -100,7 +81,7 @@ moved_to M a b D n s q i h w t m =
     (omega (arith, m.from, w.d_is))
     ∙ ap (λ d. d - (s.x - i * s.y)) (sym w.d_is)
 
-moves : (M a b D n : ℕ) (s : Spot) (q i : ℕ) → 0 < M → Walks M a b D n s → s.u + s.v < n → BatchL n s q → MovesL s q i →
+moves : (M a b D n : ℕ) (s : Spot) (q i : ℕ) → 0 < M → Walks M a b D n s → s.u + s.v < n → ShortensX n s q → MovesX s q i →
     s.r + s.v + i * s.u < n → D ≤ s.d - (s.x - i * s.y) →
     Goes M a b D n s (record { u = s.u; v = s.v + q * s.u; x = s.x - q * s.y; y = s.y; r = s.r + s.v + i * s.u; d = s.d - (s.x - i * s.y) })
 moves M a b D n s q i h w l t m o f =
@@ -116,7 +97,7 @@ moves M a b D n s q i h w l t m o f =
     (omega (arith, e, m.to, m.from, t.within, gap_is (min n (s.u + (s.v + q * s.u))) (lowered (placed s) q) k))
 
 -- it would move past n, so it stays
-late : (M a b D n : ℕ) (s : Spot) (q i : ℕ) → Walks M a b D n s → s.u + s.v < n → BatchL n s q → MovesL s q i →
+late : (M a b D n : ℕ) (s : Spot) (q i : ℕ) → Walks M a b D n s → s.u + s.v < n → ShortensX n s q → MovesX s q i →
     n ≤ s.r + s.v + i * s.u →
     Goes M a b D n s (record { u = s.u; v = s.v + q * s.u; x = s.x - q * s.y; y = s.y; r = s.r; d = s.d })
 late M a b D n s zero i w l t m o = absurd (omega (arith, t.some))
@@ -140,7 +121,7 @@ late M a b D n s (suc p) i w l t m o =
     ))
 
 -- the new point is close: k is the least such index, where t steps lead to the configuration for k
-hit_at : (M a b D n : ℕ) (s : Spot) (q i t : ℕ) → 0 < M → Walks M a b D n s → BatchL n s q → MovesL s q i →
+hit_at : (M a b D n : ℕ) (s : Spot) (q i t : ℕ) → 0 < M → Walks M a b D n s → ShortensX n s q → MovesX s q i →
     s.r + s.v + i * s.u < n → s.d - (s.x - i * s.y) < D → t * s.y ≤ s.x →
     Towards M a (s.r + s.v + i * s.u) (lowered (placed s) t) →
     s.r + s.v + i * s.u ≤ s.u + (s.v + t * s.u) →
@@ -165,7 +146,7 @@ hit_at M a b D n s q i t h w c m o f y z e g =
       held = held;
     }
 
-hit_first : (M a b D n : ℕ) (s : Spot) (q t : ℕ) → 0 < M → Walks M a b D n s → BatchL n s q → MovesL s q (suc t) →
+hit_first : (M a b D n : ℕ) (s : Spot) (q t : ℕ) → 0 < M → Walks M a b D n s → ShortensX n s q → MovesX s q (suc t) →
     s.r + s.v + suc t * s.u < n → s.d - (s.x - suc t * s.y) < D → s.r ≡ 0 →
     Hits M a b D n (s.r + s.v + suc t * s.u) (s.d - (s.x - suc t * s.y)) (record { u = s.u; v = s.v + t * s.u; x = s.x - t * s.y; y = s.y; r = s.r })
 hit_first M a b D n s q t h w c m o f z =
@@ -176,7 +157,7 @@ hit_first M a b D n s q t h w c m o f z =
     (omega arith)
     (omega (arith, m.to, c.within, w.u_from, gap_is k (lowered (placed s) t) s.r))
 
-hit_later : (M a b D n : ℕ) (s : Spot) (q t : ℕ) → 0 < M → Walks M a b D n s → s.u + s.v < n → BatchL n s q → MovesL s q t →
+hit_later : (M a b D n : ℕ) (s : Spot) (q t : ℕ) → 0 < M → Walks M a b D n s → s.u + s.v < n → ShortensX n s q → MovesX s q t →
     s.r + s.v + t * s.u < n → s.d - (s.x - t * s.y) < D → 0 < s.r →
     Hits M a b D n (s.r + s.v + t * s.u) (s.d - (s.x - t * s.y)) (record { u = s.u; v = s.v + t * s.u; x = s.x - t * s.y; y = s.y; r = s.r })
 hit_later M a b D n s q zero h w l c m o f z =
@@ -191,41 +172,36 @@ hit_later M a b D n s q (suc t) h w l c m o f z =
 
 -- ---- the same in the numbers that the code has: what is left of x, and the distance w after the move
 
-pub small_l : (n : ℕ) (s : Spot) (q : ℕ) → BatchL n s q → q * s.u < n + s.u
-small_l n s zero t = absurd (omega (arith, t.some))
-small_l n s (suc p) t = let m = less_one s.u (n - (s.u + s.v)) p t.few in omega arith
+pub small_l : (n : ℕ) (s : Spot) (q : ℕ) → ShortensX n s q → q * s.u < n + s.u
+small_l n s q t = omega (arith, few_added (n - (s.u + s.v)) s.u q q t.few (omega arith))
 
-pub stays_l : (M a b D n : ℕ) (s : Spot) (q x : ℕ) → Walks M a b D n s → s.u + s.v < n → BatchL n s q → x ≡ s.x - q * s.y →
+pub stays_l : (M a b D n : ℕ) (s : Spot) (q x : ℕ) → Walks M a b D n s → s.u + s.v < n → ShortensX n s q → x ≡ s.x - q * s.y →
     (s.u ≤ s.r) ⊎ (s.d < x) →
     Goes M a b D n s (record { u = s.u; v = s.v + q * s.u; x = x; y = s.y; r = s.r; d = s.d })
 stays_l M a b D n s q x w l t e o =
     subst (λ z. Goes M a b D n s (record { u = s.u; v = s.v + q * s.u; x = z; y = s.y; r = s.r; d = s.d })) (sym e)
     (stay M a b D n s q w l t (⊎_elim inl (λ (h : s.d < x). inr (omega arith)) o))
 
-pub some_y : (x y q d : ℕ) → d < x → x - q * y ≤ d → 0 < y
-some_y x zero q d h l = absurd (omega arith)
-some_y x (suc y) q d h l = omega arith
+pub moves_l : (s : Spot) (q i w : ℕ) → s.r < s.u → s.x - q * s.y ≤ s.d → w + s.x ≡ s.d + i * s.y → w < s.y → MovesX s q i
+moves_l s q i w h p z l = record { left = h; passed = omega arith; from = omega arith; to = omega arith }
 
-pub moves_l : (s : Spot) (q i x w : ℕ) → s.r < s.u → x ≡ s.x - q * s.y → x ≤ s.d → w + s.x ≡ s.d + i * s.y → w < s.y → MovesL s q i
-moves_l s q i x w h e p z l = record { left = h; passed = omega arith; from = omega arith; to = omega arith }
-
-pub value_l : (n : ℕ) (s : Spot) (q i w : ℕ) → BatchL n s q → MovesL s q i → w + s.x ≡ s.d + i * s.y → w ≡ s.d - (s.x - i * s.y)
+pub value_l : (n : ℕ) (s : Spot) (q i w : ℕ) → ShortensX n s q → MovesX s q i → w + s.x ≡ s.d + i * s.y → w ≡ s.d - (s.x - i * s.y)
 value_l n s q i w t m z =
     omega (arith, mul-le-mul_right s.y (in_batch s q i t.within m), t.within)
 
-pub small_move_l : (n : ℕ) (s : Spot) (q i : ℕ) → BatchL n s q → MovesL s q i → (i * s.u < n + s.u) × (i * s.y ≤ s.x)
+pub small_move_l : (n : ℕ) (s : Spot) (q i : ℕ) → ShortensX n s q → MovesX s q i → (i * s.u < n + s.u) × (i * s.y ≤ s.x)
 small_move_l n s q i t m =
     let z = in_batch s q i t.within m in
     (omega (arith, mul-le-mul_right s.u z, small_l n s q t), omega (arith, mul-le-mul_right s.y z, t.within))
 
-pub late_l : (M a b D n : ℕ) (s : Spot) (q i x : ℕ) → Walks M a b D n s → s.u + s.v < n → BatchL n s q → MovesL s q i → x ≡ s.x - q * s.y →
+pub late_l : (M a b D n : ℕ) (s : Spot) (q i x : ℕ) → Walks M a b D n s → s.u + s.v < n → ShortensX n s q → MovesX s q i → x ≡ s.x - q * s.y →
     n ≤ s.r + s.v + i * s.u →
     Goes M a b D n s (record { u = s.u; v = s.v + q * s.u; x = x; y = s.y; r = s.r; d = s.d })
 late_l M a b D n s q i x w l t m e o =
     subst (λ z. Goes M a b D n s (record { u = s.u; v = s.v + q * s.u; x = z; y = s.y; r = s.r; d = s.d })) (sym e)
     (late M a b D n s q i w l t m o)
 
-pub moved_l : (M a b D n : ℕ) (s : Spot) (q i x w : ℕ) → 0 < M → Walks M a b D n s → s.u + s.v < n → BatchL n s q → MovesL s q i → x ≡ s.x - q * s.y →
+pub moved_l : (M a b D n : ℕ) (s : Spot) (q i x w : ℕ) → 0 < M → Walks M a b D n s → s.u + s.v < n → ShortensX n s q → MovesX s q i → x ≡ s.x - q * s.y →
     w + s.x ≡ s.d + i * s.y → s.r + s.v + i * s.u < n → D ≤ w →
     Goes M a b D n s (record { u = s.u; v = s.v + q * s.u; x = x; y = s.y; r = s.r + s.v + i * s.u; d = w })
 moved_l M a b D n s q i x w h k l t m e z o f =
@@ -233,7 +209,7 @@ moved_l M a b D n s q i x w h k l t m e z o f =
     subst₂ (λ p d. Goes M a b D n s (record { u = s.u; v = s.v + q * s.u; x = p; y = s.y; r = s.r + s.v + i * s.u; d = d })) (sym e) (sym v)
     (moves M a b D n s q i h k l t m o (omega (arith, v)))
 
-pub hits_l : (M a b D n : ℕ) (s : Spot) (q i t w : ℕ) → 0 < M → Walks M a b D n s → s.u + s.v < n → BatchL n s q → MovesL s q i →
+pub hits_l : (M a b D n : ℕ) (s : Spot) (q i t w : ℕ) → 0 < M → Walks M a b D n s → s.u + s.v < n → ShortensX n s q → MovesX s q i →
     w + s.x ≡ s.d + i * s.y → s.r + s.v + i * s.u < n → w < D → 1 ≤ i →
     ((s.r ≡ 0) × (t ≡ i - 1)) ⊎ ((0 < s.r) × (t ≡ i)) →
     Hits M a b D n (s.r + s.v + i * s.u) w (shorter_x s t)
@@ -244,7 +220,7 @@ hits_l M a b D n s q i t w h k l c m z o f j e =
     (λ (p : (s.r ≡ 0) × (t ≡ i - 1)).
     let q' : suc t ≡ i = omega arith in
     subst (λ j. Hits M a b D n (s.r + s.v + j * s.u) (s.d - (s.x - j * s.y)) (shorter_x s t)) q'
-    (hit_first M a b D n s q t h k c (subst (MovesL s q) (sym q') m) (subst (λ j. s.r + s.v + j * s.u < n) (sym q') o)
+    (hit_first M a b D n s q t h k c (subst (MovesX s q) (sym q') m) (subst (λ j. s.r + s.v + j * s.u < n) (sym q') o)
     (subst (λ j. s.d - (s.x - j * s.y) < D) (sym q') (omega (arith, v))) p.0))
     (λ (p : (0 < s.r) × (t ≡ i)).
     subst (λ j. Hits M a b D n (s.r + s.v + i * s.u) (s.d - (s.x - i * s.y)) (shorter_x s j)) (sym p.1)

@@ -2,14 +2,17 @@
 use Rattle.std.proofs.Common.{◌≡◌, ℕ, zero, suc, ◌+◌, ◌-◌, ◌*◌, ◌/◌, ◌<◌, ◌≤◌, min, ◌⊎◌, sym, refl, ap, ◌∙◌, subst, subst₂, inl, inr, ⊎_elim, mul-le-mul_right, div-mul-le_self, add-one, arith}
 use native.Mathlib.Nat.{lt-div-mul-add}
 use Rattle.std.proofs.lemmas.Bool.{cases_lt}
-use Rattle.search.proofs.Batching.{few_steps}
+use Rattle.std.proofs.Math.Nat.{le-mul_of_pos_right}
+use Rattle.search.proofs.Batching.{few_added, less_one}
 use Rattle.search.proofs.Distances.{distance_is, distance_at}
 use Rattle.search.proofs.Sound.{gap_is, nearest}
 use Rattle.search.proofs.ShorterX.{inside_is}
 use Rattle.search.proofs.Reach.{arrive, raised, along_r, onto_r, shares_r}
 use Rattle.search.specs.Points.{distance}
 use Rattle.search.specs.Configurations.{gap}
-use Rattle.search.specs.Walk.{Spot, Shares, Holds, Towards, Walks, Hits, Goes, placed, shorter_y}
+use Rattle.search.specs.Walk.{ShortensY, MovesY, ClosesY, Spot, Shares, Holds, Towards, Walks, Hits, HitsOn, Goes, placed, shorter_y}
+use Rattle.search.specs.declared.place.Hit.{Hit}
+use Rattle.search.specs.declared.stretch.Stretch.{Stretch}
 
 -- t times v indices on, a point lies t·x higher
 pub up_many : (M a b x y u v r t : ℕ) → 0 < M → Shares M a x y u v → t * x ≤ distance M a b r → distance M a b (r + t * v) ≡ distance M a b r - t * x
@@ -18,15 +21,7 @@ up_many M a b x y u v r t h s l =
     distance_at M a b (r + t * v) (distance M a b r - t * x) (omega (arith, d.0))
     (record { i = d.1.i + t * s.x_is.j; j = d.1.j + t * s.x_is.i; is = omega (arith, d.1.is, ap (λ n. t * n) s.x_is.is) })
 
-pub record BatchR (n : ℕ) (s : Spot) (q : ℕ) : Type 0 where
-  pub some : 1 ≤ q
-  pub few : (q - 1) * s.v < n - (s.u + s.v)
-  pub within : q * s.x ≤ s.y
-
-less_one : (u n p : ℕ) → (suc p - 1) * u < n → p * u < n
-less_one u n p h = let e : suc p - 1 ≡ p = omega arith in omega (arith, ap (λ m. m * u) e)
-
-pub goes_r : (M a b D n : ℕ) (s : Spot) (q r d : ℕ) → Walks M a b D n s → s.u + s.v < n → BatchR n s q →
+pub goes_r : (M a b D n : ℕ) (s : Spot) (q r d : ℕ) → Walks M a b D n s → s.u + s.v < n → ShortensY n s q →
     r < n → r < s.u + q * s.v + s.v → d ≡ distance M a b r → D ≤ d →
     distance M a b r < gap (min n (s.u + q * s.v + s.v)) (raised (placed s) q) r →
     Goes M a b D n s (record { u = s.u + q * s.v; v = s.v; x = s.x; y = s.y - q * s.x; r = r; d = d })
@@ -55,22 +50,14 @@ goes_r M a b D n s (suc p) r d w l t e f g z i =
       more = omega (arith, w.v_from);
     }
 
-stay : (M a b D n : ℕ) (s : Spot) (q : ℕ) → Walks M a b D n s → s.u + s.v < n → BatchR n s q → s.r < s.u →
+stay : (M a b D n : ℕ) (s : Spot) (q : ℕ) → Walks M a b D n s → s.u + s.v < n → ShortensY n s q → s.r < s.u →
     Goes M a b D n s (record { u = s.u + q * s.v; v = s.v; x = s.x; y = s.y - q * s.x; r = s.r; d = s.d })
 stay M a b D n s q w l t o =
     let i = inside_is M a b D n s w l in
     goes_r M a b D n s q s.r s.d w l t (omega arith) (omega arith) w.d_is w.far
     (omega (arith, i, o, gap_is (min n (s.u + q * s.v + s.v)) (raised (placed s) q) s.r, w.d_is))
 
--- t moves, as many as there are
-pub record MovesR (n : ℕ) (s : Spot) (q t : ℕ) : Type 0 where
-  pub right : s.u ≤ s.r
-  pub few : t ≤ q
-  pub room : t ≤ (n - 1 - s.r) / s.v
-  pub within : t * s.x ≤ s.d
-  pub full : (t ≡ q) ⊎ ((t ≡ (n - 1 - s.r) / s.v) ⊎ (s.d < t * s.x + s.x))
-
-in_room : (n : ℕ) (s : Spot) (q t : ℕ) → s.r < n → MovesR n s q t → s.r + t * s.v < n
+in_room : (n : ℕ) (s : Spot) (q t : ℕ) → s.r < n → MovesY n s q t → s.r + t * s.v < n
 in_room n s q t h m =
     omega (arith, mul-le-mul_right s.v m.room, div-mul-le_self (n - 1 - s.r) s.v)
 
@@ -100,13 +87,13 @@ last_gap n u v x y r d p t g m h1 h2 h3 h4 h5 h6 h7 h8 full e gs =
     (cases_lt t (suc p)))
     (cases_lt t p)
 
-full_of : (n : ℕ) (s : Spot) (q t : ℕ) → 1 ≤ s.v → s.r < n → MovesR n s q t → (t ≡ q) ⊎ ((n ≤ s.r + t * s.v + s.v) ⊎ (s.d < t * s.x + s.x))
+full_of : (n : ℕ) (s : Spot) (q t : ℕ) → 1 ≤ s.v → s.r < n → MovesY n s q t → (t ≡ q) ⊎ ((n ≤ s.r + t * s.v + s.v) ⊎ (s.d < t * s.x + s.x))
 full_of n s q t h l m =
     ⊎_elim (λ e. inl e)
     (λ o. inr (⊎_elim (λ (e : t ≡ (n - 1 - s.r) / s.v). inl (omega (arith, ap (λ k. k * s.v) e, lt-div-mul-add {a = n - 1 - s.r} h))) (λ e. inr e) o))
     m.full
 
-move : (M a b D n : ℕ) (s : Spot) (q t : ℕ) → 0 < M → Walks M a b D n s → s.u + s.v < n → BatchR n s q → MovesR n s q t →
+move : (M a b D n : ℕ) (s : Spot) (q t : ℕ) → 0 < M → Walks M a b D n s → s.u + s.v < n → ShortensY n s q → MovesY n s q t →
     D ≤ s.d - t * s.x →
     Goes M a b D n s (record { u = s.u + q * s.v; v = s.v; x = s.x; y = s.y - q * s.x; r = s.r + t * s.v; d = s.d - t * s.x })
 move M a b D n s zero t h w l c m f = absurd (omega (arith, c.some))
@@ -151,17 +138,11 @@ hit_at M a b D n s g i h w hx o f far y z e gp =
       held = held;
     }
 
--- the h-th move is the first that comes close: h is suc g
-pub record CloseR (D : ℕ) (s : Spot) (t g : ℕ) : Type 0 where
-  pub not_yet : D + g * s.x ≤ s.d
-  pub now_is : s.d < D + suc g * s.x
-  pub met : s.d - t * s.x < D
-
-in_moves : (D : ℕ) (s : Spot) (t g : ℕ) → t * s.x ≤ s.d → CloseR D s t g → suc g ≤ t
+in_moves : (D : ℕ) (s : Spot) (t g : ℕ) → t * s.x ≤ s.d → ClosesY D s t g → suc g ≤ t
 in_moves D s t g h c =
     ⊎_elim (λ (z : g < t). z) (λ (z : t ≤ g). absurd (omega (arith, mul-le-mul_right s.x z, c.not_yet, c.met))) (cases_lt g t)
 
-hit_first : (M a b D n : ℕ) (s : Spot) (q t g : ℕ) → 0 < M → Walks M a b D n s → s.u + s.v < n → BatchR n s q → MovesR n s q t → CloseR D s t g →
+hit_first : (M a b D n : ℕ) (s : Spot) (q t g : ℕ) → 0 < M → Walks M a b D n s → s.u + s.v < n → ShortensY n s q → MovesY n s q t → ClosesY D s t g →
     s.r ≡ s.u →
     Hits M a b D n (s.r + suc g * s.v) (s.d - suc g * s.x) (record { u = s.u + g * s.v; v = s.v; x = s.x; y = s.y - g * s.x; r = s.r + g * s.v })
 hit_first M a b D n s q t g h w l c m o e =
@@ -176,7 +157,7 @@ hit_first M a b D n s q t g h w l c m o e =
     (omega arith)
     (omega (arith, i, m.within, gap_is k (raised (placed s) g) (s.r + g * s.v)))
 
-hit_later : (M a b D n : ℕ) (s : Spot) (q t g : ℕ) → 0 < M → Walks M a b D n s → s.u + s.v < n → BatchR n s q → MovesR n s q t → CloseR D s t g →
+hit_later : (M a b D n : ℕ) (s : Spot) (q t g : ℕ) → 0 < M → Walks M a b D n s → s.u + s.v < n → ShortensY n s q → MovesY n s q t → ClosesY D s t g →
     s.u < s.r →
     Hits M a b D n (s.r + suc g * s.v) (s.d - suc g * s.x) (record { u = s.u + suc g * s.v; v = s.v; x = s.x; y = s.y - suc g * s.x; r = s.r + g * s.v })
 hit_later M a b D n s q t g h w l c m o e =
@@ -193,64 +174,36 @@ hit_later M a b D n s q t g h w l c m o e =
 
 -- ---- the same in the numbers that the code has: what is left of y, and the distance w after the moves
 
-pub batch_r : (n : ℕ) (s : Spot) (most q : ℕ) → (most - 1) * s.v < n - (s.u + s.v) → 1 ≤ most → s.x ≤ s.y →
-    q ≤ most → q * s.x ≤ s.y → (q ≡ most) ⊎ (s.y < q * s.x + s.x) → BatchR n s q
-batch_r n s most zero f a h b w o = absurd (omega arith)
-batch_r n s most (suc q) f a h b w o = record { some = omega arith; few = few_steps (n - (s.u + s.v)) s.v most (suc q) f b; within = w }
+pub small_r : (n : ℕ) (s : Spot) (q : ℕ) → ShortensY n s q → q * s.v < n + s.v
+small_r n s q t = omega (arith, few_added (n - (s.u + s.v)) s.v q q t.few (omega arith))
 
-pub small_r : (n : ℕ) (s : Spot) (q : ℕ) → BatchR n s q → q * s.v < n + s.v
-small_r n s zero t = absurd (omega (arith, t.some))
-small_r n s (suc p) t = let m = less_one s.v (n - (s.u + s.v)) p t.few in omega arith
-
-pub stays_r : (M a b D n : ℕ) (s : Spot) (q y : ℕ) → Walks M a b D n s → s.u + s.v < n → BatchR n s q → y ≡ s.y - q * s.x → s.r < s.u →
+pub stays_r : (M a b D n : ℕ) (s : Spot) (q y : ℕ) → Walks M a b D n s → s.u + s.v < n → ShortensY n s q → y ≡ s.y - q * s.x → s.r < s.u →
     Goes M a b D n s (record { u = s.u + q * s.v; v = s.v; x = s.x; y = y; r = s.r; d = s.d })
 stays_r M a b D n s q y w l t e o =
     subst (λ z. Goes M a b D n s (record { u = s.u + q * s.v; v = s.v; x = s.x; y = z; r = s.r; d = s.d })) (sym e)
     (stay M a b D n s q w l t o)
 
-pub moves_r : (n : ℕ) (s : Spot) (q t m : ℕ) → s.u ≤ s.r →
-    ((q < (n - 1 - s.r) / s.v) × (m ≡ q)) ⊎ (((n - 1 - s.r) / s.v ≤ q) × (m ≡ (n - 1 - s.r) / s.v)) →
-    t ≤ m → t * s.x ≤ s.d → (t ≡ m) ⊎ (s.d < t * s.x + s.x) → MovesR n s q t
-moves_r n s q t m h o l w f =
-    ⊎_elim
-    (λ (e : (q < (n - 1 - s.r) / s.v) × (m ≡ q)).
-    record { right = h; few = omega arith; room = omega arith; within = w; full = ⊎_elim (λ z. inl (z ∙ e.1)) (λ z. inr (inr z)) f })
-    (λ (e : ((n - 1 - s.r) / s.v ≤ q) × (m ≡ (n - 1 - s.r) / s.v)).
-    record { right = h; few = omega arith; room = omega arith; within = w; full = ⊎_elim (λ z. inr (inl (z ∙ e.1))) (λ z. inr (inr z)) f })
-    o
-
-pub moved_r : (M a b D n : ℕ) (s : Spot) (q t y w : ℕ) → 0 < M → Walks M a b D n s → s.u + s.v < n → BatchR n s q → MovesR n s q t →
+pub moved_r : (M a b D n : ℕ) (s : Spot) (q t y w : ℕ) → 0 < M → Walks M a b D n s → s.u + s.v < n → ShortensY n s q → MovesY n s q t →
     y ≡ s.y - q * s.x → w ≡ s.d - t * s.x → D ≤ w →
     Goes M a b D n s (record { u = s.u + q * s.v; v = s.v; x = s.x; y = y; r = s.r + t * s.v; d = w })
 moved_r M a b D n s q t y w h k l c m e f z =
     subst₂ (λ p d. Goes M a b D n s (record { u = s.u + q * s.v; v = s.v; x = s.x; y = p; r = s.r + t * s.v; d = d })) (sym e) (sym f)
     (move M a b D n s q t h k l c m (omega arith))
 
-pub some_x : (x t d D : ℕ) → D ≤ d → d - t * x < D → 0 < x
-some_x zero t d D h l = absurd (omega arith)
-some_x (suc x) t d D h l = omega arith
-
-pub close_r : (D : ℕ) (s : Spot) (t g : ℕ) → D + g * s.x ≤ s.d → s.d < D + g * s.x + s.x → s.d - t * s.x < D → CloseR D s t g
-close_r D s t g a b e = record { not_yet = a; now_is = omega arith; met = e }
-
-at_least_itself : (g v : ℕ) → 1 ≤ v → g ≤ g * v
-at_least_itself g zero h = absurd (omega arith)
-at_least_itself g (suc v) h = omega arith
-
 -- the numbers of a hit stay small
-pub near_r : (M a b D n : ℕ) (s : Spot) (q t g : ℕ) → Walks M a b D n s → s.u + s.v < n → MovesR n s q t → CloseR D s t g →
+pub near_r : (M a b D n : ℕ) (s : Spot) (q t g : ℕ) → Walks M a b D n s → s.u + s.v < n → MovesY n s q t → ClosesY D s t g →
     (g < n) × (s.r + (g + 1) * s.v < n) × ((g + 1) * s.x ≤ s.d) × (s.d ≤ s.y)
 near_r M a b D n s q t g w l m o =
     let i = inside_is M a b D n s w l in
     let z = in_moves D s t g m.within o in
     let r = in_room n s q t (omega arith) m in (
-      omega (arith, mul-le-mul_right s.v z, r, at_least_itself g s.v w.v_from),
+      omega (arith, mul-le-mul_right s.v z, r, le-mul_of_pos_right g w.v_from),
       omega (arith, mul-le-mul_right s.v z, r),
       omega (arith, mul-le-mul_right s.x z, m.within),
       omega (arith, i, m.right),
     )
 
-pub hits_r : (M a b D n : ℕ) (s : Spot) (q t g i : ℕ) → 0 < M → Walks M a b D n s → s.u + s.v < n → BatchR n s q → MovesR n s q t → CloseR D s t g →
+pub hits_r : (M a b D n : ℕ) (s : Spot) (q t g i : ℕ) → 0 < M → Walks M a b D n s → s.u + s.v < n → ShortensY n s q → MovesY n s q t → ClosesY D s t g →
     ((s.r ≡ s.u) × (i ≡ g)) ⊎ ((s.u < s.r) × (i ≡ g + 1)) →
     Hits M a b D n (s.r + (g + 1) * s.v) (s.d - (g + 1) * s.x) (shorter_y s i (s.r + g * s.v))
 hits_r M a b D n s q t g i h w l c m o z =
@@ -263,3 +216,7 @@ hits_r M a b D n s q t g i h w l c m o z =
     subst₂ (λ k j. Hits M a b D n (s.r + k * s.v) (s.d - k * s.x) (shorter_y s j (s.r + g * s.v))) step (step ∙ sym e.1)
     (hit_later M a b D n s q t g h w l c m o e.0))
     z
+
+-- a hit that was answered
+pub hit_told : (t : Stretch) {h k : Hit} → HitsOn t k → h ≡ k → HitsOn t h
+hit_told t w e = subst (HitsOn t) (sym e) w

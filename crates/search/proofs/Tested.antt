@@ -1,6 +1,8 @@
 -- The test of five numbers passes exactly where they vouch.
-use Rattle.std.proofs.Common.{◌≡◌, ℕ, ◌+◌, ◌*◌, Bool, true, false, ◌&&◌, T, eqb, ltb, leb, pos, ◌-ℤ◌, sym, refl, ltb-true, lt-ltb, eq-eqb, eqb-true, le-leb, leb-true}
-use Rattle.std.proofs.lemmas.Bool.{and_parts, and_from}
+use Rattle.std.proofs.Common.{◌≡◌, ℕ, ◌+◌, ◌*◌, Bool, true, ◌&&◌, T, eqb, ltb, leb, pos, ◌-ℤ◌, subst, ltb-true, lt-ltb, eq-eqb, eqb-true, le-leb, leb-true}
+use Rattle.std.proofs.lemmas.Bool.{and_parts, and_from, true_from_ne_false}
+use Rattle.std.proofs.lemmas.Float.{T_from_true}
+use Rattle.std.specs.Cmp.{both_ways}
 use Rattle.grid.specs.Residue.{residue}
 use Rattle.search.specs.Points.{distance}
 use Rattle.search.specs.Configurations.{gap}
@@ -63,14 +65,9 @@ pub vouches_passes : (M a b D n : ℕ) (e : Evidence) → Vouches M a b D n e �
 vouches_passes M a b D n e v =
     and_from _ _ (within_passes M n e v.within) (and_from _ _ (filling_passes M a e v.fills) (clear_passes M a b D n e v.clears))
 
--- two answers that are yes in the same cases are the same
-same_answer : (a b : Bool) → (T a → b ≡ true) → (b ≡ true → T a) → a ≡ b
-same_answer true b to back = sym (to tt)
-same_answer false true to back = absurd (back refl)
-same_answer false false to back = refl
-
 -- what is true exactly where the numbers vouch is the test
 pub tells_the_test : (r : Bool) (M a b D n : ℕ) (e : Evidence) → (T r → Vouches M a b D n e) × (Vouches M a b D n e → T r) →
     r ≡ vouching M a b D n e
 tells_the_test r M a b D n e h =
-    same_answer r (vouching M a b D n e) (λ t. vouches_passes M a b D n e (h.0 t)) (λ t. h.1 (vouching_vouches M a b D n e t))
+    both_ways r (vouching M a b D n e) (λ t. vouches_passes M a b D n e (h.0 (T_from_true r t)))
+    (λ t. true_from_ne_false r (λ f. subst T f (h.1 (vouching_vouches M a b D n e t))))

@@ -1,5 +1,7 @@
 -- What the search keeps true on its way. Only contracts of inner functions cite this file.
-use Rattle.std.specs.Prelude.{◌≡◌, ℕ, ◌+◌, ◌-◌, ◌*◌, ◌<◌, ◌≤◌, min}
+use Rattle.std.specs.Prelude.{◌≡◌, ℕ, suc, ◌+◌, ◌-◌, ◌*◌, ◌/◌, ◌<◌, ◌≤◌, ◌⊎◌, min}
+use Rattle.std.specs.declared.ops.ControlFlow.{ControlFlow}
+use Rattle.std.specs.declared.ops.ControlFlow.TheVariants.{Continue, Break}
 use Rattle.grid.specs.Congruent.{Same}
 use Rattle.search.specs.Points.{distance}
 use Rattle.search.specs.Configurations.{Config, gap, config_for, first_from}
@@ -7,8 +9,9 @@ use Rattle.search.specs.Vouching.{config_of}
 use Rattle.search.specs.declared.evidence.Evidence.{Evidence}
 use Rattle.search.specs.declared.stretch.Stretch.{Stretch}
 use Rattle.search.specs.declared.place.Place.{Place}
-use Rattle.search.specs.declared.place.Turn.{Turn}
-use Rattle.search.specs.declared.place.Turn.TheVariants.{Hit, On}
+use Rattle.search.specs.declared.place.Hit.{Hit}
+use Rattle.search.specs.Answers.{answer}
+use Rattle.search.specs.declared.answer.Answer.TheVariants.{Clear}
 
 -- two gap lengths and two index steps that share out the circle
 pub record Shares (M a x y u v : ℕ) : Type 0 where
@@ -94,17 +97,66 @@ started M a b = record { u = 1; v = 1; x = a; y = M - a; r = 0; d = b }
 abbrev pub WalksAlong : Stretch → Spot → Type 0
 WalksAlong t s = Walks t.modulus.value t.slope t.offset t.threshold t.points s
 
+-- the walk along a stretch stands at s, and has not come to its end
+pub record Walking (t : Stretch) (s : Spot) : Type 0 where
+  pub walks : WalksAlong t s
+  pub unfinished : s.u + s.v < t.points
+
+-- the same facts of a hit on a stretch
+abbrev pub HitsOn : Stretch → Hit → Type 0
+HitsOn t h = Hits t.modulus.value t.slope t.offset t.threshold t.points h.index h.value h.evidence
+
 -- what a turn of the walk from s comes to
-abbrev pub Turned : {A : Type 0} → (A → ℕ) → Stretch → Spot → Turn A → Type 0
-Turned units t s (Hit k w e) = Hits t.modulus.value t.slope t.offset t.threshold t.points k w e
-Turned units t s (On p) = Goes t.modulus.value t.slope t.offset t.threshold t.points s (spot units p)
+abbrev pub Turned : {A : Type 0} → (A → ℕ) → Stretch → Spot → ControlFlow Hit (Place A) → Type 0
+Turned units t s (Break h) = HitsOn t h
+Turned units t s (Continue p) = Goes t.modulus.value t.slope t.offset t.threshold t.points s (spot units p)
 
 -- what the place over two points is: the hit of the point 1, or a place to walk from
-abbrev pub Opened : {A : Type 0} → (A → ℕ) → Stretch → Turn A → Type 0
-Opened units t (Hit k w e) = Hits t.modulus.value t.slope t.offset t.threshold t.points k w e
-Opened units t (On p) = WalksAlong t (spot units p)
+abbrev pub Opened : {A : Type 0} → (A → ℕ) → Stretch → ControlFlow Hit (Place A) → Type 0
+Opened units t (Break h) = HitsOn t h
+Opened units t (Continue p) = WalksAlong t (spot units p)
+
+-- what the walk comes to: a hit, or the evidence that none is close
+abbrev pub Ended : Stretch → ControlFlow Hit Evidence → Type 0
+Ended t (Break h) = HitsOn t h
+Ended t (Continue e) = answer t.modulus.value t.slope t.offset t.threshold t.points ≡ Clear e
 
 -- how many of the n points a turn leaves to walk
-abbrev pub points_left : {A : Type 0} → ℕ → Turn A → ℕ
-points_left n (Hit k w e) = 0
-points_left n (On p) = n - (p.u + p.v)
+abbrev pub points_left : {A : Type 0} → ℕ → ControlFlow Hit (Place A) → ℕ
+points_left n (Break h) = 0
+points_left n (Continue p) = n - (p.u + p.v)
+
+-- ---- batches of steps
+
+-- q steps from s that shorten x: something of x is left, and fewer are not enough for n points
+pub record ShortensX (n : ℕ) (s : Spot) (q : ℕ) : Type 0 where
+  pub some : 1 ≤ q
+  pub few : (q - 1) * s.u < n - (s.u + s.v)
+  pub within : q * s.y < s.x
+
+-- the point below the offset lies in an x gap, and moves at the i-th of q steps
+pub record MovesX (s : Spot) (q i : ℕ) : Type 0 where
+  pub left : s.r < s.u
+  pub passed : s.x - q * s.y ≤ s.d
+  pub from : s.x ≤ s.d + i * s.y
+  pub to : s.d + i * s.y < s.x + s.y
+
+-- q steps from s that shorten y: they go into it, and fewer are not enough for n points
+pub record ShortensY (n : ℕ) (s : Spot) (q : ℕ) : Type 0 where
+  pub some : 1 ≤ q
+  pub few : (q - 1) * s.v < n - (s.u + s.v)
+  pub within : q * s.x ≤ s.y
+
+-- the point below the offset lies in a y gap, and moves t times in q steps, as often as there are steps, points below n, and it stays below
+pub record MovesY (n : ℕ) (s : Spot) (q t : ℕ) : Type 0 where
+  pub right : s.u ≤ s.r
+  pub few : t ≤ q
+  pub room : t ≤ (n - 1 - s.r) / s.v
+  pub within : t * s.x ≤ s.d
+  pub full : (t ≡ q) ⊎ ((t ≡ (n - 1 - s.r) / s.v) ⊎ (s.d < t * s.x + s.x))
+
+-- of t moves the one after the g-th is the first that comes closer than D
+pub record ClosesY (D : ℕ) (s : Spot) (t g : ℕ) : Type 0 where
+  pub not_yet : D + g * s.x ≤ s.d
+  pub now_is : s.d < D + suc g * s.x
+  pub met : s.d - t * s.x < D

@@ -1,7 +1,14 @@
 // Many steps at once, by division with rest.
-ghost use Rattle.std.specs.Prelude.{◌≡◌, ◌+◌, ◌-◌, ◌*◌, ◌^◌, ◌<◌, ◌≤◌, ◌⊎◌, ◌==◌};
+ghost use Rattle.std.specs.Prelude.{◌≡◌, ◌+◌, ◌-◌, ◌*◌, ◌^◌, ◌<◌, ◌≤◌, ◌⊎◌, MatchBool};
 
 use lengths::arithmetic::Arithmetic;
+
+/// A batch of steps: how many, and the length that they leave.
+#[derive(Clone, Copy)]
+pub(crate) struct Batch<A> {
+    pub steps: u64,
+    pub rest: A,
+}
 
 /// How many steps that each add `by` points it takes to add `need` points.
 pub(crate) fn steps_for(need: u64, by: u64) -> u64
@@ -14,73 +21,74 @@ pub(crate) fn steps_for(need: u64, by: u64) -> u64
 
 /// Whether the length has no units: then it is not more than itself less itself.
 fn is_nothing<A: Arithmetic>(length: A) -> bool
-    ensures tells_whether_it_has_units { result ≡ (A.units length == 0) }
+    ensures tells_whether_it_has_units { MatchBool result (A.units length ≡ 0) (0 < A.units length) }
 {
     !length.minus(length).less(length)
 }
 
 /// Takes `part` off `length` as often as it goes, at most `most` times: how often, and what is left.
-pub(crate) fn take_off<A: Arithmetic>(length: A, part: A, most: u64) -> (u64, A)
+pub(crate) fn take_off<A: Arithmetic>(length: A, part: A, most: u64) -> Batch<A>
     requires carried { A.units length ≤ A.largest }
-    ensures at_most { result.0 ≤ most }
-    ensures it_goes { result.0 * A.units part ≤ A.units length }
-    ensures the_rest { A.units result.1 ≡ A.units length - result.0 * A.units part }
-    ensures no_more { (result.0 ≡ most) ⊎ (A.units length < result.0 * A.units part + A.units part) }
+    ensures at_most { result.steps ≤ most }
+    ensures it_goes { result.steps * A.units part ≤ A.units length }
+    ensures the_rest { A.units result.rest ≡ A.units length - result.steps * A.units part }
+    ensures no_more { (result.steps ≡ most) ⊎ (A.units length < result.steps * A.units part + A.units part) }
 {
     if is_nothing(part) {
-        return (most, length);
+        return Batch {
+            steps: most,
+            rest: length,
+        };
     }
-    let (times, rest) = length.divide(part);
-    if times <= most {
-        (times, rest)
+    let (steps, rest) = length.divide(part);
+    if steps <= most {
+        Batch { steps, rest }
     } else {
-        (
-            most,
-            A::from_units(length.to_units() - most * part.to_units()),
-        )
+        Batch {
+            steps: most,
+            rest: A::from_units(length.to_units() - most * part.to_units()),
+        }
     }
-}
-
-/// One part less, where the parts use up a longer length: it leaves that part.
-fn one_less<A: Arithmetic>(length: A, part: A, times: u64) -> u64
-    requires used_up { times * A.units part ≡ A.units length }
-    requires longer { A.units part < A.units length }
-    ensures at_least_one { (1 ≤ result) × (result ≤ times) }
-    ensures leaves_a_part { (result * A.units part < A.units length) × (A.units part ≡ A.units length - result * A.units part) }
-{
-    times - 1
 }
 
 /// Takes `part` off `length`, which is longer, as often as something is left, at most `most` times: how often, and what is left.
-pub(crate) fn shorten<A: Arithmetic>(length: A, part: A, most: u64) -> (u64, A)
+#[tactic(auto, using(crate::proofs::Batching::one_less_fits, crate::proofs::Batching::one_less_leaves))]
+pub(crate) fn shorten<A: Arithmetic>(length: A, part: A, most: u64) -> Batch<A>
     requires carried { A.units length ≤ A.largest }
     requires longer { A.units part < A.units length }
     requires some { 1 ≤ most }
-    ensures at_least_once { 1 ≤ result.0 }
-    ensures at_most { result.0 ≤ most }
-    ensures something_is_left { result.0 * A.units part < A.units length }
-    ensures the_rest { A.units result.1 ≡ A.units length - result.0 * A.units part }
+    ensures at_least_once { 1 ≤ result.steps }
+    ensures at_most { result.steps ≤ most }
+    ensures something_is_left { result.steps * A.units part < A.units length }
+    ensures the_rest { A.units result.rest ≡ A.units length - result.steps * A.units part }
 {
-    let (times, rest) = take_off(length, part, most);
-    if is_nothing(rest) {
-        (one_less(length, part, times), part)
+    let taken = take_off(length, part, most);
+    if is_nothing(taken.rest) {
+        // the last part stays
+        Batch {
+            steps: taken.steps - 1,
+            rest: part,
+        }
     } else {
-        (times, rest)
+        taken
     }
 }
 
 /// At which step of length `part` what is left of `length` is first at most `d`, and how much less than `d` it then is.
-pub(crate) fn first_within<A: Arithmetic>(length: A, d: A, part: A) -> (u64, A)
+pub(crate) fn first_within<A: Arithmetic>(length: A, d: A, part: A) -> Batch<A>
     requires longer { (A.units d < A.units length) × (A.units length ≤ 2 ^ 40) }
     requires some { 0 < A.units part }
-    ensures at_least_one { 1 ≤ result.0 }
-    ensures within_by_then { A.units result.1 + A.units length ≡ A.units d + result.0 * A.units part }
-    ensures not_before { A.units result.1 < A.units part }
+    ensures at_least_one { 1 ≤ result.steps }
+    ensures within_by_then { A.units result.rest + A.units length ≡ A.units d + result.steps * A.units part }
+    ensures not_before { A.units result.rest < A.units part }
 {
-    let (times, rest) = length.minus(d).divide(part);
+    let (steps, rest) = length.minus(d).divide(part);
     if is_nothing(rest) {
-        (times, rest)
+        Batch { steps, rest }
     } else {
-        (times + 1, part.minus(rest))
+        Batch {
+            steps: steps + 1,
+            rest: part.minus(rest),
+        }
     }
 }

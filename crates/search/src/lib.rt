@@ -10,6 +10,7 @@ use lengths::arithmetic::Arithmetic;
 
 pub mod answer;
 mod batches;
+mod claim;
 pub mod evidence;
 mod place;
 pub mod refusal;

@@ -6,7 +6,7 @@ ghost use Rattle.std.specs.Prelude.{◌≡◌};
 use grid::refusal::ModulusRefusal;
 
 /// What a search refuses, in the order in which it looks: the modulus, the slope and the offset, the threshold, the number of points.
-#[derive(Clone, Copy)]
+#[derive(Clone, Copy, PartialEq, Eq, Debug)]
 pub enum SearchRefusal {
     Modulus(ModulusRefusal),
     Coefficient,
@@ -15,7 +15,7 @@ pub enum SearchRefusal {
 }
 
 impl SearchRefusal {
-    /// The number of the refusal, as it is printed.
+    /// The number of the refusal, as it is printed: which number is which refusal's is a rule, so one match says it for all.
     pub fn number(self) -> u32
         ensures the_number_of_the_case { result ≡ number_of self }
     {

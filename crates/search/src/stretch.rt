@@ -7,9 +7,10 @@ mod making;
 mod searching;
 mod shorter_x;
 mod shorter_y;
+mod walk;
 
 /// The points b − k·a mod M for k below `points`, with the threshold under which one counts as close.
-#[derive(Clone, Copy)]
+#[derive(Clone, Copy, PartialEq, Eq, Debug)]
 pub struct Stretch {
     modulus: Modulus,
     slope: u64,

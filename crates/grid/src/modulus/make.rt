@@ -10,14 +10,14 @@ impl Modulus {
     pub fn new(value: u64) -> Result<Modulus, ModulusRefusal>
         ensures made_within_the_limits { Made value result }
     {
-        if 2 <= value && value <= 1 << 40 {
+        if (2..=1 << 40).contains(&value) {
             Ok(Modulus { value })
         } else {
             Err(ModulusRefusal::OutsideLimits)
         }
     }
 
-    /// The modulus as a number.
+    /// The modulus as a number; `new` and `get` have the form that std's `NonZero` has.
     pub fn get(self) -> u64
         ensures is_the_value { result ≡ self.value }
     {

@@ -18,12 +18,7 @@ impl Modulus {
         ensures is_the_residue { result ≡ residue self.value z }
         ensures below_the_modulus { result < self.value }
     {
-        let size = z.unsigned_abs();
-        if z < 0 {
-            self.value - 1 - (size - 1) % self.value
-        } else {
-            self.residue(size)
-        }
+        z.rem_euclid(self.value as i64) as u64
     }
 
     /// a·b mod M.
@@ -31,6 +26,7 @@ impl Modulus {
         ensures is_the_residue { result ≡ residue self.value (pos (a * b)) }
         ensures below_the_modulus { result < self.value }
     {
+        // most products have 64 bits, which are divided faster than 128
         match a.checked_mul(b) {
             Some(product) => self.residue(product),
             None => (a as u128 * b as u128 % self.value as u128) as u64,

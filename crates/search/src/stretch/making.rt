@@ -6,7 +6,7 @@ use crate::stretch::Stretch;
 use grid::modulus::Modulus;
 
 impl Stretch {
-    /// The stretch of these numbers, or the first refusal that they call for.
+    /// The stretch of these numbers, or the first refusal that they call for: parameters here, and one struct once none is refused.
     pub fn new(
         modulus: u64,
         slope: u64,
@@ -23,7 +23,7 @@ impl Stretch {
         if threshold > modulus {
             return Err(SearchRefusal::Threshold);
         }
-        if points < 1 || points > 1 << 20 {
+        if !(1..=1 << 20).contains(&points) {
             return Err(SearchRefusal::Points);
         }
         Ok(Stretch {

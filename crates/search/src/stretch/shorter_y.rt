@@ -1,87 +1,87 @@
-// A batch of steps that shorten y.
-ghost use Rattle.std.specs.Prelude.{◌≡◌, ◌+◌, ◌-◌, ◌*◌, ◌/◌, ◌^◌, ◌<◌, ◌≤◌};
-ghost use Rattle.search.specs.Walk.{Turned, WalksAlong, shorter_y, spot};
-ghost use Rattle.search.specs.declared.place.Turn.TheVariants.{Hit};
+// A batch of steps that shorten y. It does not mirror that of x: something of x has to be left and the point moves once, while y may be used
+// up and the point moves with each step.
+ghost use Rattle.std.specs.Prelude.{◌≡◌, ◌+◌, ◌-◌, ◌*◌, ◌^◌, ◌<◌, ◌≤◌};
+ghost use Rattle.search.specs.Walk.{ClosesY, MovesY, ShortensY, Turned, Walking, shorter_y, spot};
 
-use crate::batches::{steps_for, take_off};
-use crate::evidence::Evidence;
-use crate::place::{Place, Turn};
-use crate::stretch::Stretch;
+use crate::batches::{Batch, steps_for, take_off};
+use crate::place::{Hit, Place};
+use crate::stretch::walk::Walk;
 use lengths::arithmetic::Arithmetic;
-
-/// The evidence with the lengths of `s` after `t` steps, at the point `r`.
-fn evidence_after<A: Arithmetic>(s: Place<A>, t: u64, r: u64) -> Evidence
-    requires fits { (t * A.units s.x ≤ A.units s.y) × (s.u + t * s.v < 2 ^ 32) }
-    ensures the_lengths_after_t_steps { result ≡ shorter_y (spot A.units s) t r }
-{
-    let x = s.x.to_units();
-    let y = s.y.to_units();
-    Evidence {
-        u: s.u + t * s.v,
-        v: s.v,
-        x,
-        y: y - t * x,
-        r,
-    }
-}
-
-/// How many moves by `x` take `d` down to the threshold, and not below it.
-fn moves_before<A: Arithmetic>(d: A, x: A, threshold: u64) -> u64
-    requires above { threshold ≤ A.units d }
-    requires some { 0 < A.units x }
-    ensures not_below_yet { threshold + result * A.units x ≤ A.units d }
-    ensures below_with_one_more { A.units d < threshold + result * A.units x + A.units x }
-{
-    (d.to_units() - threshold) / x.to_units()
-}
+use std::ops::ControlFlow;
 
 /// The hit of the move after the g-th, with the lengths after `i` steps.
-fn hit_after<A: Arithmetic>(s: Place<A>, g: u64, i: u64) -> Turn<A>
+fn hit_after<A: Arithmetic>(s: Place<A>, g: u64, i: u64) -> Hit
     requires within_the_gap { ((g + 1) * A.units s.x ≤ A.units s.d) × (A.units s.d ≤ A.units s.y) }
     requires small { (s.u ≤ s.r) × ((s.r + (g + 1) * s.v < 2 ^ 32) × (g < 2 ^ 32)) }
     requires steps { i ≤ g + 1 }
-    ensures the_next_point_with_evidence { result ≡ Hit (s.r + (g + 1) * s.v) (A.units s.d - (g + 1) * A.units s.x) (shorter_y (spot A.units s) i (s.r + g * s.v)) }
+    ensures the_next_point_with_evidence { result ≡ record { index = s.r + (g + 1) * s.v; value = A.units s.d - (g + 1) * A.units s.x; evidence = shorter_y (spot A.units s) i (s.r + g * s.v) } }
 {
-    Turn::Hit {
+    Hit {
         index: s.r + (g + 1) * s.v,
         value: s.d.to_units() - (g + 1) * s.x.to_units(),
-        evidence: evidence_after(s, i, s.r + g * s.v),
+        evidence: s.evidence_after_y(i, s.r + g * s.v),
     }
 }
 
-/// Shortens y by x as often as it goes, or until there are points enough. Where the offset lies in a y gap, the point below it moves by x
-/// with each step, as long as it stays below and there are points.
-pub(crate) fn shorten_y<A: Arithmetic>(stretch: Stretch, near: A, s: Place<A>) -> Turn<A>
-    requires walks { WalksAlong stretch (spot A.units s) }
-    requires unfinished { s.u + s.v < stretch.points }
-    requires carried { stretch.modulus.value ≤ A.largest }
-    requires near_is_the_threshold { A.units near ≡ stretch.threshold }
-    requires x_is_no_longer { A.units s.x ≤ A.units s.y }
-    ensures hits_or_goes_on { Turned A.units stretch (spot A.units s) result }
-{
-    let most = steps_for(stretch.points - (s.u + s.v), s.v);
-    let (q, y) = take_off(s.y, s.x, most);
-    let stays = Place {
-        u: s.u + q * s.v,
-        v: s.v,
-        x: s.x,
-        y,
-        r: s.r,
-        d: s.d,
-    };
-    if s.r < s.u {
-        return Turn::On(stays);
+impl<A: Arithmetic> Walk<A> {
+    /// The steps: as often as x goes into y, or as there are points enough with.
+    fn batch_y(&self, s: Place<A>) -> Batch<A>
+        requires under_way { Walking self.now.stretch (spot A.units s) }
+        requires x_is_no_longer { A.units s.x ≤ A.units s.y }
+        ensures steps_of_y { ShortensY self.now.stretch.points (spot A.units s) result.steps }
+        ensures the_rest { A.units result.rest ≡ A.units s.y - result.steps * A.units s.x }
+        ensures few { result.steps * s.v < 2 ^ 21 }
+    {
+        let most = steps_for(self.stretch.points - (s.u + s.v), s.v);
+        take_off(s.y, s.x, most)
     }
-    let room = (stretch.points - 1 - s.r) / s.v;
-    let (t, w) = take_off(s.d, s.x, if q < room { q } else { room });
-    if w.less(near) {
-        let g = moves_before(s.d, s.x, stretch.threshold);
-        let i = if s.r == s.u { g } else { g + 1 };
-        return hit_after(s, g, i);
+
+    /// The moves of the point below the offset: as often as it stays below, in as many steps and as long as there are points.
+    fn moves_y(&self, s: Place<A>, steps: u64) -> Batch<A>
+        requires under_way { Walking self.now.stretch (spot A.units s) }
+        requires in_a_y_gap { s.u ≤ s.r }
+        ensures the_moves { MovesY self.now.stretch.points (spot A.units s) steps result.steps }
+        ensures the_distance { A.units result.rest ≡ A.units s.d - result.steps * A.units s.x }
+    {
+        let room = (self.stretch.points - 1 - s.r) / s.v;
+        take_off(s.d, s.x, steps.min(room))
     }
-    Turn::On(Place {
-        r: s.r + t * s.v,
-        d: w,
-        ..stays
-    })
+
+    /// How many of `moves` leave the offset at the threshold or above it, where all of them do not.
+    fn moves_before(&self, s: Place<A>, moves: u64) -> u64
+        requires far { self.now.stretch.threshold ≤ A.units s.d }
+        requires all_are_too_many { A.units s.d - moves * A.units s.x < self.now.stretch.threshold }
+        ensures one_more_is_close { ClosesY self.now.stretch.threshold (spot A.units s) moves result }
+    {
+        (s.d.to_units() - self.stretch.threshold) / s.x.to_units()
+    }
+
+    /// Shortens y by x as often as it goes, or until there are points enough. Where the offset lies in a y gap, the point below it moves
+    /// by x with each step, as long as it stays below and there are points.
+    pub fn shorten_y(&self, s: Place<A>) -> ControlFlow<Hit, Place<A>>
+        requires under_way { Walking self.now.stretch (spot A.units s) }
+        requires x_is_no_longer { A.units s.x ≤ A.units s.y }
+        ensures hits_or_goes_on { Turned A.units self.now.stretch (spot A.units s) result }
+    {
+        let batch = self.batch_y(s);
+        let stays = Place {
+            u: s.u + batch.steps * s.v,
+            y: batch.rest,
+            ..s
+        };
+        if s.r < s.u {
+            return ControlFlow::Continue(stays);
+        }
+        let moves = self.moves_y(s, batch.steps);
+        if moves.rest.less(self.near) {
+            let g = self.moves_before(s, moves.steps);
+            let i = if s.r == s.u { g } else { g + 1 };
+            return ControlFlow::Break(hit_after(s, g, i));
+        }
+        ControlFlow::Continue(Place {
+            r: s.r + moves.steps * s.v,
+            d: moves.rest,
+            ..stays
+        })
+    }
 }
