@@ -5,7 +5,7 @@ mod make;
 mod residues;
 
 /// A whole number from 2 to 2^40.
-#[derive(Clone, Copy)]
+#[derive(Clone, Copy, PartialEq, Eq, Debug)]
 pub struct Modulus {
     value: u64,
     ghost within: { (2 ≤ value) × (value ≤ 2 ^ 40) },

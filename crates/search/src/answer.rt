@@ -1,7 +1,7 @@
 use crate::evidence::Evidence;
 
 /// What a search finds.
-#[derive(Clone, Copy)]
+#[derive(Clone, Copy, PartialEq, Eq, Debug)]
 pub enum Answer {
     /// The least close index, its value, and the evidence for that many points; index 0 has no points before it, so none.
     Close {

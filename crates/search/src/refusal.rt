@@ -6,7 +6,7 @@ ghost use Rattle.std.specs.Prelude.{◌≡◌};
 use grid::refusal::ModulusRefusal;
 
 /// What a search refuses, in the order in which it looks: the modulus, the slope and the offset, the threshold, the number of points.
-#[derive(Clone, Copy)]
+#[derive(Clone, Copy, PartialEq, Eq, Debug)]
 pub enum SearchRefusal {
     Modulus(ModulusRefusal),
     Coefficient,
