@@ -5,7 +5,7 @@ ghost use Rattle.std.specs.Prelude.{◌≡◌};
 use records::fault::RecordFault;
 
 /// What is wrong where a record is due, in the order in which it is looked for.
-#[derive(Clone, Copy)]
+#[derive(Clone, Copy, PartialEq, Eq, Debug)]
 pub enum Fault {
     /// The bytes there are no record.
     Record(RecordFault),
@@ -26,7 +26,7 @@ pub enum Fault {
 }
 
 impl Fault {
-    /// The number of the fault.
+    /// The number of the fault, as it is printed.
     pub fn number(self) -> u32
         ensures the_number_of_the_case { result ≡ fault_number self }
     {
