@@ -1,3 +1,4 @@
 pub mod CloseIndices
 pub mod Questions
+pub mod Sizes
 pub mod WindowLaws

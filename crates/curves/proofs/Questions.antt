@@ -1,13 +1,9 @@
 -- What an answer to a question tells of what was asked.
-use Rattle.std.proofs.Common.{◌≡◌, ℕ, ◌+◌, ◌<◌, ◌≤◌, Bool, true, false, cond, ◌&&◌, ltb, leb, Some, None, sym, refl, subst, arith}
+use Rattle.std.proofs.Common.{◌≡◌, ℕ, ◌+◌, ◌<◌, ◌≤◌, ◌&&◌, ltb, leb, Some, sym, refl, subst, arith}
 use Rattle.std.proofs.lemmas.Bool.{and_parts, ltb-true, leb-true}
+use Rattle.std.proofs.lemmas.Option.{cond_some}
 use Rattle.curves.specs.Meaning.{Meaning, Facts, LineFacts, value_of, line_of}
 use Rattle.curves.specs.declared.line.Line.{Line}
-
--- what a test with one thing or none answers
-some_where : {A : Type 0} (b : Bool) (x y : A) → Some x ≡ cond b (Some y) None → (b ≡ true) × (x ≡ y)
-some_where true x y e = (refl, cc)
-some_where false x y e = let z : ◌≡◌ {A = ℕ} 0 1 = cc in absurd (omega arith)
 
 -- v was answered to the question for the value at k
 pub record ValueAnswered (m : Meaning) (k v : ℕ) : Type 0 where
@@ -17,9 +13,9 @@ pub record ValueAnswered (m : Meaning) (k v : ℕ) : Type 0 where
 
 pub value_answered : (m : Meaning) (k v : ℕ) → Facts m → Some v ≡ value_of m k → ValueAnswered m k v
 value_answered m k v f e =
-    let w = some_where (ltb k m.count) v (m.value k) e in
+    let w = cond_some (ltb k m.count) (m.value k) v (sym e) in
     let h : k < m.count = ltb-true k m.count w.0 in
-    record { within = h; is = w.1; below = omega (arith, w.1, f.value_below k h) }
+    record { within = h; is = sym w.1; below = omega (arith, w.1, f.value_below k h) }
 
 -- l was answered to the question for the line from s for n points
 pub record LineAnswered (m : Meaning) (s n : ℕ) (l : Line) : Type 0 where
@@ -30,12 +26,12 @@ pub record LineAnswered (m : Meaning) (s n : ℕ) (l : Line) : Type 0 where
 
 pub line_answered : (m : Meaning) (s n : ℕ) (l : Line) → Facts m → Some l ≡ line_of m s n → LineAnswered m s n l
 line_answered m s n l f e =
-    let w = some_where (leb 1 n && leb (s + n) m.count) l (m.line s n) e in
+    let w = cond_some (leb 1 n && leb (s + n) m.count) (m.line s n) l (sym e) in
     let t = and_parts (leb 1 n) (leb (s + n) m.count) w.0 in
     let from : 1 ≤ n = leb-true 1 n t.0 in
     let to : s + n ≤ m.count = leb-true (s + n) m.count t.1 in
     let P : Line → Type 0 = λ x. LineFacts m s n x in
-    record { some = from; within = to; is = w.1; facts = subst P (sym w.1) (f.line_facts s n from to) }
+    record { some = from; within = to; is = sym w.1; facts = subst P w.1 (f.line_facts s n from to) }
 
 -- a stretch within the curve has a line
 pub line_there : (m : Meaning) (s n : ℕ) → Facts m → 1 ≤ n → s + n ≤ m.count → LineAnswered m s n (m.line s n)

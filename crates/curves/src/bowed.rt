@@ -9,7 +9,7 @@ mod reach;
 mod values;
 
 /// F(k) = (c0 + c1·k + c2·k(k − 1)/2) mod M for k below the count. A line may leave the curve by the tolerance at most.
-#[derive(Clone, Copy)]
+#[derive(Clone, Copy, PartialEq, Eq, Debug)]
 pub struct Bowed {
     modulus: Modulus,
     count: u32,

@@ -20,10 +20,8 @@ pub(crate) fn window_on_line<C: Curve>(
     ensures close_indices_are_candidates { WhereAnswered result (CloseAreCandidates (C.meaning curve.now) place threshold) }
     ensures without_error_distances_are_values { WhereAnswered result (DistancesAreValues (C.meaning curve.now) place) }
 {
-    match curve.line(place, length) {
-        Some(line) => Some((line, Window::over(curve.modulus(), line, threshold))),
-        None => None,
-    }
+    let line = curve.line(place, length)?;
+    Some((line, Window::over(curve.modulus(), line, threshold)))
 }
 
 /// The value less half the threshold, rounded down.
@@ -38,8 +36,6 @@ fn above_half(value: u64, threshold: u64) -> i64
 pub(crate) fn offset_at<C: Curve>(curve: &C, threshold: u64, k: u32) -> Option<i64>
     ensures is_the_offset_below_the_count { result ≡ offset_answer (C.meaning curve.now) threshold k }
 {
-    match curve.value(k) {
-        Some(value) => Some(above_half(value, threshold)),
-        None => None,
-    }
+    let value = curve.value(k)?;
+    Some(above_half(value, threshold))
 }

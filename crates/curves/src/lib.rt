@@ -46,75 +46,65 @@ pub fn offset_of<C: Curve>(curve: &C, threshold: u64, k: u32) -> Option<i64>
 mod tests {
     use crate::bowed::Bowed;
     use crate::curve::Curve;
+    use crate::line::Line;
     use crate::listed::{Listed, judge};
     use crate::refusal::CurveRefusal;
     use crate::shifted::Shifted;
     use crate::straight::Straight;
+    use crate::window::Window;
     use crate::{line_window, offset_of};
     use std::process::Abort;
     use std::test::Fail;
 
     fn made<T: Drop>(made: Result<T, CurveRefusal>) -> Result<T, Fail> {
-        match made {
-            Ok(curve) => Ok(curve),
-            Err(_) => Err(Fail::new("refused")),
-        }
+        made.map_err(|_| Fail::new("refused"))
     }
 
-    fn refused<T: Drop>(made: Result<T, CurveRefusal>) -> u32 {
-        match made {
-            Ok(_) => 0,
-            Err(refusal) => refusal.number(),
-        }
+    // The number of the refusal, if there is one.
+    fn refused<T: Drop>(made: Result<T, CurveRefusal>) -> Option<u32> {
+        made.err().map(|refusal| refusal.number())
     }
 
-    // The line at the place: its reach, slope, offset and error.
-    fn line_is<C: Curve>(
-        rt: &impl Abort,
-        curve: &C,
-        place: u32,
-        length: u32,
-        expected: [u64; 4],
-    ) -> Result<(), Fail> {
-        let line = curve.line(place, length).ok_or("no line")?;
-        assert_eq!(rt;
-            [line.reach as u64, line.slope, line.offset, line.error],
-            expected
-        );
-        Ok(())
+    fn some_line(reach: u32, slope: u64, offset: u64, error: u64) -> Option<Line> {
+        Some(Line {
+            reach,
+            slope,
+            offset,
+            error,
+        })
     }
 
     // The figures of the worked bowed curve, raised by 10.
-    fn figures_raised_by_10<C: Curve>(rt: &impl Abort, curve: &C) -> Result<(), Fail> {
+    fn figures_raised_by_10<C: Curve>(rt: &impl Abort, curve: &C) {
         assert_eq!(rt; curve.modulus().get(), 1000);
         assert_eq!(rt; curve.count(), 5);
         assert_eq!(rt; curve.value(2), Some(11));
         assert_eq!(rt; curve.value(4), Some(15));
         assert_eq!(rt; curve.value(5), None);
-        line_is(rt, curve, 0, 5, [3, 3, 15, 2])
+        assert_eq!(rt; curve.line(0, 5), some_line(3, 3, 15, 2));
     }
 
     #[test]
     fn shifts_add_up_over_a_bowed_curve(rt: HostRuntime) -> Result<(), Fail> {
         let bowed = made(Bowed::new(1000, 5, 5, -3, 2, 3))?;
-        line_is(&rt, &bowed, 0, 5, [3, 3, 5, 2])?;
-        line_is(&rt, &bowed, 0, 2, [2, 3, 5, 0])?;
-        figures_raised_by_10(&rt, &Shifted::new(Shifted::new(bowed, 990), 20))?;
+        assert_eq!(rt; bowed.line(0, 5), some_line(3, 3, 5, 2));
+        assert_eq!(rt; bowed.line(0, 2), some_line(2, 3, 5, 0));
+        figures_raised_by_10(&rt, &Shifted::new(Shifted::new(bowed, 990), 20));
         assert_eq!(rt; Shifted::new(bowed, u64::MAX).value(0), Some(620));
         Ok(())
     }
 
     #[test]
     fn makers_refuse_in_order(rt: HostRuntime) {
-        assert_eq!(rt; refused(Straight::new(1, 0, 9, 9)), 1);
-        assert_eq!(rt; refused(Straight::new(2, 0, 9, 9)), 2);
-        assert_eq!(rt; refused(Straight::new(2, (1 << 20) + 1, 0, 0)), 2);
-        assert_eq!(rt; refused(Straight::new(2, 1, 0, 2)), 4);
-        assert_eq!(rt; refused(Bowed::new(2, 1 << 32, 9, 0, 0, 0)), 2);
-        assert_eq!(rt; refused(Bowed::new(9, 1, 0, i64::MIN, 0, 0)), 4);
-        assert_eq!(rt; refused(Bowed::new(9, 1, 0, 0, -(1 << 20) - 1, 0)), 4);
-        assert_eq!(rt; refused(judge(1, &[])), 1);
-        assert_eq!(rt; refused(judge(2, &[])), 2);
+        assert_eq!(rt; refused(Straight::new(1, 0, 9, 9)), Some(1));
+        assert_eq!(rt; refused(Straight::new(2, 0, 9, 9)), Some(2));
+        assert_eq!(rt; refused(Straight::new(2, (1 << 20) + 1, 0, 0)), Some(2));
+        assert_eq!(rt; refused(Straight::new(2, 1, 0, 2)), Some(4));
+        assert_eq!(rt; refused(Bowed::new(2, 1 << 32, 9, 0, 0, 0)), Some(2));
+        assert_eq!(rt; refused(Bowed::new(9, 1, 0, i64::MIN, 0, 0)), Some(4));
+        assert_eq!(rt; refused(Bowed::new(9, 1, 0, 0, -(1 << 20) - 1, 0)), Some(4));
+        assert_eq!(rt; refused(judge(1, &[])), Some(1));
+        assert_eq!(rt; refused(judge(2, &[])), Some(2));
     }
 
     #[test]
@@ -123,9 +113,9 @@ mod tests {
         let straight = made(Straight::new(1 << 40, 1 << 20, (1 << 40) - 1, (1 << 40) - 1))?;
         assert_eq!(rt; straight.value(last), Some((1 << 20) - 2));
         assert_eq!(rt; straight.value(last + 1), None);
-        assert!(rt; straight.line(last, 2).is_none());
-        assert!(rt; straight.line(0, 0).is_none());
-        assert!(rt; straight.line(u32::MAX, u32::MAX).is_none());
+        assert_eq!(rt; straight.line(last, 2), None);
+        assert_eq!(rt; straight.line(0, 0), None);
+        assert_eq!(rt; straight.line(u32::MAX, u32::MAX), None);
         let bowed = made(Bowed::new(
             1 << 40,
             1 << 20,
@@ -135,34 +125,36 @@ mod tests {
             (1 << 40) - 1,
         ))?;
         assert_eq!(rt; bowed.value(last), Some(549755813886));
-        line_is(
-            &rt,
-            &bowed,
-            1046576,
-            2000,
-            [1449, 1097414475775, 650579540015, 1098517577728],
-        )
+        assert_eq!(rt;
+            bowed.line(1046576, 2000),
+            some_line(1449, 1097414475775, 650579540015, 1098517577728)
+        );
+        Ok(())
     }
 
     #[test]
-    fn lists_are_read_mod_m(rt: HostRuntime) -> Result<(), Fail> {
+    fn lists_are_read_mod_m(rt: HostRuntime) {
         let listed = Listed::new(45, &[u64::MAX, 44]);
         assert_eq!(rt; listed.value(0), Some(15));
         assert_eq!(rt; listed.count(), 2);
-        line_is(&rt, &listed, 1, 1, [1, 0, 44, 0])?;
+        assert_eq!(rt; listed.line(1, 1), some_line(1, 0, 44, 0));
         assert_eq!(rt; Shifted::new(listed, 2).value(1), Some(1));
         let empty = Listed::new(45, &[]);
         assert_eq!(rt; empty.modulus().get(), 2);
         assert_eq!(rt; empty.count(), 1);
         assert_eq!(rt; empty.value(0), Some(0));
-        line_is(&rt, &empty, 0, 1, [1, 0, 0, 0])
+        assert_eq!(rt; empty.line(0, 1), some_line(1, 0, 0, 0));
     }
 
     #[test]
     fn windows_and_offsets_take_any_threshold(rt: HostRuntime) -> Result<(), Fail> {
         let bowed = made(Bowed::new(1000, 5, 5, -3, 2, 3))?;
         let (_, narrow) = line_window(&bowed, 0, 5, 3).ok_or("no line")?;
-        assert_eq!(rt; [narrow.offset, narrow.threshold], [7, 7]);
+        let expected = Window {
+            offset: 7,
+            threshold: 7,
+        };
+        assert_eq!(rt; narrow, expected);
         let (_, all) = line_window(&bowed, 0, 5, u64::MAX).ok_or("no line")?;
         assert_eq!(rt; all.threshold, 1000);
         assert_eq!(rt; offset_of(&bowed, 9, 2), Some(-3));

@@ -8,7 +8,7 @@ mod answers;
 mod making;
 
 /// F(k) is entry k mod M, over the caller's list.
-#[derive(Clone, Copy)]
+#[derive(Clone, Copy, PartialEq, Eq, Debug)]
 pub struct Listed<'a> {
     modulus: Modulus,
     entries: &'a [u64],

@@ -6,7 +6,7 @@ ghost use Rattle.std.specs.Prelude.{◌≡◌};
 use grid::refusal::ModulusRefusal;
 
 /// What the making of a curve refuses, in the order in which it looks.
-#[derive(Clone, Copy)]
+#[derive(Clone, Copy, PartialEq, Eq, Debug)]
 pub enum CurveRefusal {
     /// The number is no modulus.
     Modulus(ModulusRefusal),

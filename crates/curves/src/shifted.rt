@@ -1,7 +1,6 @@
 // Shifted curves: a layer over any curve.
-ghost use Rattle.std.specs.Prelude.{◌≡◌, ◌+◌, ◌<◌, pos};
-ghost use Rattle.curves.specs.Kinds.{shifted_meaning};
-ghost use Rattle.grid.specs.Residue.{residue};
+ghost use Rattle.std.specs.Prelude.{◌≡◌, ◌<◌};
+ghost use Rattle.curves.specs.Kinds.{gained, shifted_meaning};
 ghost use Rattle.curves.specs.ShiftedFacts.{shifted_facts};
 
 use crate::curve::Curve;
@@ -23,14 +22,15 @@ impl<C: Curve> Shifted<C> {
     {
         Shifted { below, t }
     }
-}
 
-/// (value + t) mod M, in whole numbers.
-fn raised(modulus: Modulus, value: u64, t: u64) -> u64
-    requires a_residue { value < modulus.value }
-    ensures gains_the_shift { result ≡ residue modulus.value (pos (value + t)) }
-{
-    modulus.residue(value + modulus.residue(t))
+    /// (value + t) mod M, in whole numbers.
+    fn raised(&self, value: u64) -> u64
+        requires a_residue { value < (C.meaning self.now.below).modulus }
+        ensures gains_the_shift { result ≡ gained (C.meaning self.now.below) self.now.t value }
+    {
+        let modulus = self.below.modulus();
+        modulus.residue(value + modulus.residue(self.t))
+    }
 }
 
 impl<C: Curve> Curve for Shifted<C> {
@@ -47,24 +47,15 @@ impl<C: Curve> Curve for Shifted<C> {
     }
 
     fn value(&self, k: u32) -> Option<u64> {
-        match self.below.value(k) {
-            Some(value) => Some(raised(self.below.modulus(), value, self.t)),
-            None => None,
-        }
+        let value = self.below.value(k)?;
+        Some(self.raised(value))
     }
 
     fn line(&self, place: u32, length: u32) -> Option<Line> {
-        match self.below.line(place, length) {
-            Some(line) => {
-                let offset = raised(self.below.modulus(), line.offset, self.t);
-                Some(Line {
-                    reach: line.reach,
-                    slope: line.slope,
-                    offset,
-                    error: line.error,
-                })
-            }
-            None => None,
-        }
+        let line = self.below.line(place, length)?;
+        Some(Line {
+            offset: self.raised(line.offset),
+            ..line
+        })
     }
 }

@@ -7,7 +7,7 @@ mod answers;
 mod making;
 
 /// F(k) = (offset − k·slope) mod M for k below the count.
-#[derive(Clone, Copy)]
+#[derive(Clone, Copy, PartialEq, Eq, Debug)]
 pub struct Straight {
     modulus: Modulus,
     count: u32,

@@ -6,7 +6,7 @@ use crate::line::Line;
 use grid::modulus::Modulus;
 
 /// The points of a line that may be close: those j with (offset − j·slope) mod M below the threshold.
-#[derive(Clone, Copy)]
+#[derive(Clone, Copy, PartialEq, Eq, Debug)]
 pub struct Window {
     pub offset: u64,
     pub threshold: u64,

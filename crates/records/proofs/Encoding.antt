@@ -186,7 +186,7 @@ module _ (kind size : ℕ) (body : List ℕ) (bytes : Bytes body) (l : length bo
       found P e _ _ _ h (tells_by_test (hit p) (point_fits body bytes) (point_stands body bytes)) (λ h.
       found P e _ _ _ h (tells_by_test (miss p) (point_fits body bytes) (point_stands body bytes)) (λ h.
       found P e _ _ _ h (tells_by_test (end (field body 0 4)) (field_below body bytes 0 4) (last_stands body bytes 0 4)) (λ h.
-      let z : ◌≡◌ {A = ℕ} 0 1 = cc in absurd (omega arith))))))
+      cc)))))
 
 no_smaller_than_four : (e : Entry) → 4 ≤ size_of e
 no_smaller_than_four (head h) = lit≤ tt

@@ -1,36 +1,11 @@
-// The numbers in the bytes of a record, the lowest byte first.
-ghost use Rattle.std.specs.Prelude.{◌≡◌, ◌+◌, ◌≤◌, length};
-ghost use Rattle.records.specs.Bytes.{field};
+// The parts of a record, by their places.
+ghost use Rattle.std.specs.Prelude.{◌≡◌, ◌+◌, ◌≤◌, length, take, drop};
 
-/// The number in the two bytes from the place on.
-pub(crate) fn two_bytes(bytes: &[u8], at: usize) -> u16
-    requires within { at + 2 ≤ length bytes.now }
-    ensures is_the_number_there { result ≡ field bytes.now at 2 }
+/// The bytes from the place on, as many as the array has.
+pub(crate) fn array_at<const N: usize>(bytes: &[u8], at: usize) -> &[u8; N]
+    requires within { at + N ≤ length bytes.now }
+    ensures are_those_there { result.now ≡ take N (drop at bytes.now) }
+    ensures as_many { length result.now ≡ N }
 {
-    u16::from_le_bytes([bytes[at], bytes[at + 1]])
-}
-
-/// The number in the four bytes from the place on.
-pub(crate) fn four_bytes(bytes: &[u8], at: usize) -> u32
-    requires within { at + 4 ≤ length bytes.now }
-    ensures is_the_number_there { result ≡ field bytes.now at 4 }
-{
-    u32::from_le_bytes([bytes[at], bytes[at + 1], bytes[at + 2], bytes[at + 3]])
-}
-
-/// The number in the eight bytes from the place on.
-pub(crate) fn eight_bytes(bytes: &[u8], at: usize) -> u64
-    requires within { at + 8 ≤ length bytes.now }
-    ensures is_the_number_there { result ≡ field bytes.now at 8 }
-{
-    u64::from_le_bytes([
-        bytes[at],
-        bytes[at + 1],
-        bytes[at + 2],
-        bytes[at + 3],
-        bytes[at + 4],
-        bytes[at + 5],
-        bytes[at + 6],
-        bytes[at + 7],
-    ])
+    <&[u8; N]>::try_from(&bytes[at..at + N]).unwrap()
 }

@@ -2,23 +2,23 @@
 ghost use Rattle.records.specs.Entries.{point_in};
 ghost use Rattle.std.specs.Prelude.{◌≡◌};
 
-use crate::fields::{eight_bytes, four_bytes};
+use crate::fields::array_at;
 
 /// An index with the value of the curve there.
-#[derive(Clone, Copy)]
+#[derive(Clone, Copy, PartialEq, Eq, Debug)]
 pub struct Point {
     pub index: u32,
     pub value: u64,
 }
 
-impl Point {
-    /// The numbers in the body of a hit or a miss.
-    pub fn read(body: &[u8; 12]) -> Point
-        ensures has_the_numbers_of_the_body { result ≡ point_in body.now }
-    {
+/// The numbers in the body of a hit or a miss.
+impl From<&[u8; 12]> for Point {
+    ghost from_gives = { λ body point. point ≡ point_in body.now };
+
+    fn from(body: &[u8; 12]) -> Point {
         Point {
-            index: four_bytes(body, 0),
-            value: eight_bytes(body, 4),
+            index: u32::from_le_bytes(*array_at(body, 0)),
+            value: u64::from_le_bytes(*array_at(body, 4)),
         }
     }
 }

@@ -2,7 +2,7 @@
 
 /// A record of a sheet, by kind, with its body as a part of the sheet. Before the body stand two bytes with the length of the whole
 /// record and two with the number of its kind.
-#[derive(Clone, Copy)]
+#[derive(Clone, Copy, PartialEq, Eq, Debug)]
 pub enum Record<'a> {
     /// Kind 1: which block of which survey the sheet is for.
     Head(&'a [u8; 24]),

@@ -16,16 +16,12 @@ use Rattle.sheets.specs.Rules.{Covers, AllHold, hits_of, KeepsTheRules}
 use Rattle.sheets.specs.Tests.{opening, going, points_of, heading_for}
 use Rattle.sheets.specs.Verdict.{Judgement, passed_on, judged_from, verdict}
 use Rattle.sheets.specs.declared.assignment.Assignment.{Assignment}
-use Rattle.sheets.specs.declared.refusal.SheetRefusal.{SheetRefusal}
 use Rattle.sheets.specs.declared.refusal.SheetRefusal.TheVariants.{TooLong}
 
 -- ---- a sheet that passes keeps the rules
 
-not_refused : {A : Type 0} {r : SheetRefusal} {hits : List ℕ} → ◌≡◌ {A = Judgement} (Err r) (Ok hits) → A
-not_refused h = let z : ◌≡◌ {A = ℕ} 0 1 = cc in absurd (omega arith)
-
 passes_since : (b : Bool) (j : Judgement) (hits : List ℕ) → cond b (Err TooLong) j ≡ Ok hits → (b ≡ false) × (j ≡ Ok hits)
-passes_since true j hits h = not_refused h
+passes_since true j hits h = cc
 passes_since false j hits h = (refl, h)
 
 module _ (m : Meaning) (a : Assignment) (s hits : List ℕ) (v : verdict m a s ≡ Ok hits) where
@@ -43,14 +39,14 @@ module _ (m : Meaning) (a : Assignment) (s hits : List ℕ) (v : verdict m a s �
         hold = hold;
         the_hits = cc;
       }
-  kept_behind e behind j l r e_is h (broken es p k' n fault stands place covers within hold counts first is) = not_refused (sym is ∙ h)
+  kept_behind e behind j l r e_is h (broken es p k' n fault stands place covers within hold counts first is) = cc
 
   keeps_the_rules : Bytes s → KeepsTheRules m a s hits
   keeps_the_rules bytes =
       let p = passes_since (ltb (2 ^ 22) (length s)) _ hits v in
       let h = sym (first_turn m a s) ∙ p.1 in
       elim (turn m a s 0 opening (length s) bytes) [
-        | stops fault first is ↦ not_refused (sym is ∙ h)
+        | stops fault first is ↦ cc
         | passes e behind r o is ↦
             let e_is = head_is_due m a (length s - behind) e o in
             kept_behind e behind _ (ltb-false _ _ p.0) r e_is (sym (passed_on_head e _ _ e_is) ∙ sym is ∙ h)

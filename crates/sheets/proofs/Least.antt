@@ -44,7 +44,7 @@ module _ (p : Fault → Bool) where
   first_fits_by false g f gs n is r h later = let y = later h in (y.0, (λ l. is, y.1))
 
   first_fits : (gs : List Fault) (n : ℕ) (f : Fault) → Rising n gs → first_that p gs ≡ Some f → (p f ≡ true) × NoneBefore p gs f
-  first_fits [] n f r h = let z : ◌≡◌ {A = ℕ} 0 1 = cc in absurd (omega arith)
+  first_fits [] n f r h = cc
   first_fits (g ∷ gs) n f r h = first_fits_by (p g) g f gs n refl r h (first_fits gs (n + 1) f r.1)
 
   -- every fault is in the list of them
@@ -84,7 +84,7 @@ module _ (m : Meaning) (a : Assignment) (s : List ℕ) (fault : Fault) (p : ℕ)
 
   least_behind : (e : Entry) (behind : ℕ) (j : Judgement) → Encoded s 0 e behind → e ≡ head (heading_for m a) → j ≡ Err (Faulty fault p) →
       Run m a s behind (start_of m a) 0 j → LeastFault m a s fault p
-  least_behind e behind j r e_is h (whole es stands covers hold is) = let z : ◌≡◌ {A = ℕ} 0 1 = cc in absurd (omega arith)
+  least_behind e behind j r e_is h (whole es stands covers hold is) = cc
   least_behind e behind j r e_is h (broken es q k n x stands place covers within hold counts first is) =
       let c : n ≡ length es = omega arith in
       least_at x q (going k (length es)) j is h

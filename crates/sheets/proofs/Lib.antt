@@ -4,8 +4,7 @@ pub mod Going
 pub mod Kept
 pub mod Least
 pub mod Passed
-pub mod Placed
+pub mod Reading
 pub mod Runs
 pub mod Turning
 pub mod Turns
-pub mod Uncut

@@ -1,5 +1,5 @@
 -- What is so where a judgement passes.
-use Rattle.std.proofs.Common.{◌≡◌, ℕ, suc, ◌+◌, ◌-◌, ◌≤◌, Bool, true, false, cond, ◌&&◌, eqb, leb, List, [], ◌∷◌, length, Some, None, Ok, Err, Option, Result, refl, arith}
+use Rattle.std.proofs.Common.{◌≡◌, ℕ, suc, ◌+◌, ◌-◌, ◌≤◌, Bool, true, false, cond, ◌&&◌, eqb, leb, List, [], ◌∷◌, length, Some, None, Ok, Err, Option, Result, refl}
 use Rattle.std.proofs.lemmas.Bool.{and_parts, not-false, eqb-true, leb-true}
 use Rattle.curves.specs.Meaning.{Meaning}
 use Rattle.records.specs.Entries.{Entry, head, clean, hit, miss, end}
@@ -34,7 +34,7 @@ turned : (m : Meaning) (a : Assignment) (s : List ℕ) (d : Due) (at : ℕ) (res
 turned m a s d at rest hits (Ok x) h =
     let p = faultless at _ x.0 (rest x) hits h in
     record { entry = x.0; behind = x.1; free = p.0; on = p.1 }
-turned m a s d at rest hits (Err fault) h = let z : ◌≡◌ {A = ℕ} 0 1 = cc in absurd (omega arith)
+turned m a s d at rest hits (Err fault) h = cc
 
 pub turn_passed : (m : Meaning) (a : Assignment) (s : List ℕ) (turns at : ℕ) (d : Due) (hits : List ℕ) →
     judged_from (suc turns) m a s at d ≡ Ok hits → Turned m a s d (λ x. judged_from turns m a s x.1 (after m a d x.0)) hits

@@ -25,10 +25,6 @@ module _ (m : Meaning) (a : Assignment) (s : List ℕ) (at : ℕ) where
         | Err fault ↦ Err (Faulty (Record fault) at)
       ]
 
-  pub no_record : (turns : ℕ) (d : Due) (fault : RecordFault) → Err fault ≡ due s at →
-      judged_from (suc turns) m a s at d ≡ Err (Faulty (Record fault) at)
-  no_record turns d fault is = ap (by_due turns d) (sym is)
-
   pub one_record : (turns : ℕ) (d : Due) (e : Entry) (b : ℕ) (o : Option Fault) → Ok (e, b) ≡ due s at →
       o ≡ first_fault m a d (length s - b) e →
       judged_from (suc turns) m a s at d ≡ judged_entry at o e (judged_from turns m a s b (after m a d e))
@@ -51,7 +47,7 @@ module _ (m : Meaning) (a : Assignment) (s : List ℕ) (at : ℕ) where
     -- what an entry without a fault leaves to be judged
     pub turned_by : (e : Entry) → Ok (e, b) ≡ due s at → None ≡ first_fault m a (going k records) (length s - b) e → k ≤ stop_of m a →
         at + 8 ≤ b → b ≤ length s → Turned m a s at k records (Ok (turn_of e k b))
-    turned_by (head h) is free below later within = let z : ◌≡◌ {A = ℕ} 0 1 = cc in absurd (omega arith)
+    turned_by (head h) is free below later within = cc
     turned_by (clean c) is free below later within = (
       record { later = later; within = within; below = stays_within (clean c) free below },
       λ turns. one_record turns (going k records) (clean c) b None is free,
@@ -78,10 +74,10 @@ opened_by m a s (head h) b is free some within = (
   some,
   within,
 )
-opened_by m a s (clean c) b is free some within = let z : ◌≡◌ {A = ℕ} 0 1 = cc in absurd (omega arith)
-opened_by m a s (hit p) b is free some within = let z : ◌≡◌ {A = ℕ} 0 1 = cc in absurd (omega arith)
-opened_by m a s (miss p) b is free some within = let z : ◌≡◌ {A = ℕ} 0 1 = cc in absurd (omega arith)
-opened_by m a s (end n) b is free some within = let z : ◌≡◌ {A = ℕ} 0 1 = cc in absurd (omega arith)
+opened_by m a s (clean c) b is free some within = cc
+opened_by m a s (hit p) b is free some within = cc
+opened_by m a s (miss p) b is free some within = cc
+opened_by m a s (end n) b is free some within = cc
 
 -- and one that does not
 pub not_opened_by : (m : Meaning) (a : Assignment) (s : List ℕ) (e : Entry) (b : ℕ) (r : SheetRefusal) → Ok (e, b) ≡ due s 0 →
@@ -89,8 +85,3 @@ pub not_opened_by : (m : Meaning) (a : Assignment) (s : List ℕ) (e : Entry) (b
 not_opened_by m a s e b r is fits at =
     rw add-one (one_record m a s 0 (length s) opening e b (Some Head) is (sym (cond-true _ (Some Head) None fits)))
     ∙ ap Err (sym at)
-
--- and no record at all
-pub no_head : (m : Meaning) (a : Assignment) (s : List ℕ) (fault : RecordFault) (r : SheetRefusal) → Err fault ≡ due s 0 →
-    r ≡ Faulty (Record fault) 0 → Opened m a s (Err r)
-no_head m a s fault r is at = rw add-one (no_record m a s 0 (length s) opening fault is) ∙ ap Err (sym at)

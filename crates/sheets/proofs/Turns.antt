@@ -119,9 +119,6 @@ passed : (b : Bool) (f : Fault) (o : Option Fault) → cond b (Some f) o ≡ Non
 passed true f o h = (cc, cc)
 passed false f o h = (refl, h)
 
-never : {A : Type 0} {f : Fault} → Some f ≡ None → A
-never h = let z : ◌≡◌ {A = ℕ} 0 1 = cc in absurd (omega arith)
-
 same : (n : ℕ) → eqb n n ≡ true
 same n = eq-eqb n n refl
 
@@ -139,7 +136,7 @@ module _ (m : Meaning) (a : Assignment) (k : ℕ) where
 
   module _ (count behind : ℕ) where
     pub faultless : (e : Entry) → first_fault m a (going k count) behind e ≡ None → Faultless m a k count behind e
-    faultless (head h) n = never n
+    faultless (head h) n = cc
     faultless (clean c) n =
         let x = passed _ Place _ n in
         let y = passed _ Reach _ x.1 in
@@ -193,10 +190,10 @@ module _ (m : Meaning) (a : Assignment) (behind : ℕ) where
         modulus = eqb-true _ _ r.0 i;
         threshold = eqb-true _ _ r.1 i;
       })
-  head_is_due (clean c) n = never n
-  head_is_due (hit p) n = never n
-  head_is_due (miss p) n = never n
-  head_is_due (end x) n = never n
+  head_is_due (clean c) n = cc
+  head_is_due (hit p) n = cc
+  head_is_due (miss p) n = cc
+  head_is_due (end x) n = cc
 
   pub head_passes : first_fault m a opening behind (head (heading_for m a)) ≡ None
   head_passes =

@@ -10,7 +10,7 @@ ghost use Rattle.sheets.specs.declared.refusal.SheetRefusal.TheVariants.{Faulty}
 
 use crate::assignment::Assignment;
 use crate::blocks::{start_of, stop_of};
-use crate::entries::{fault_of, opens, points_of};
+use crate::entries::points_of;
 use crate::fault::Fault;
 use crate::progress::Progress;
 use crate::refusal::SheetRefusal;
@@ -18,6 +18,17 @@ use crate::turn::Turn;
 use curves::curve::Curve;
 use records::reading::record_at;
 use records::record::Record;
+
+/// A sheet of at most 2^22 bytes, and the block of a curve that it is judged for; `stop` is the index behind the block's last.
+#[derive(Drop)]
+pub(crate) struct Judge<'a, C: Curve> {
+    pub(crate) curve: &'a C,
+    pub(crate) assignment: Assignment,
+    pub(crate) stop: u32,
+    sheet: &'a [u8],
+    ghost stop_is_the_blocks: { stop ≡ stop_of (C.meaning curve.now) assignment },
+    ghost not_too_long: { length sheet.now ≤ 2 ^ 22 },
+}
 
 /// The refusal for a fault at a byte.
 fn faulty(fault: Fault, at: usize) -> SheetRefusal
@@ -27,22 +38,6 @@ fn faulty(fault: Fault, at: usize) -> SheetRefusal
     SheetRefusal::Faulty {
         fault,
         byte: at as u32,
-    }
-}
-
-/// Reads the head, and answers the byte behind it or says what is wrong.
-fn open<C: Curve>(curve: &C, assignment: Assignment, sheet: &[u8]) -> Result<usize, SheetRefusal>
-    ensures leaves_the_judgement_to_the_rest { Opened (C.meaning curve.now) assignment sheet.now result }
-{
-    match record_at(sheet, 0) {
-        Err(fault) => Err(faulty(Fault::Record(fault), 0)),
-        Ok((record, end)) => {
-            if opens(curve, assignment, record) {
-                Ok(end)
-            } else {
-                Err(faulty(Fault::Head, 0))
-            }
-        }
     }
 }
 
@@ -61,32 +56,8 @@ fn turn_of(record: Record<'_>, next: u32, end: usize) -> Turn
     }
 }
 
-/// Judges the record that is due at a byte behind the head.
-fn judge_one<C: Curve>(
-    curve: &C,
-    assignment: Assignment,
-    progress: Progress,
-    stop: u32,
-    sheet: &[u8],
-    at: usize,
-) -> Result<Turn, SheetRefusal>
-    requires stop_is_the_blocks { stop ≡ stop_of (C.meaning curve.now) assignment }
-    requires within { (at ≤ length sheet.now) × (length sheet.now ≤ 2 ^ 22) }
-    requires not_beyond { progress.next ≤ stop }
-    ensures leaves_the_judgement_to_the_rest { Turned (C.meaning curve.now) assignment sheet.now at progress.next progress.records result }
-{
-    match record_at(sheet, at) {
-        Err(fault) => Err(faulty(Fault::Record(fault), at)),
-        Ok((record, end)) => {
-            match fault_of(curve, assignment, progress, stop, sheet.len() - end, record) {
-                Some(fault) => Err(faulty(fault, at)),
-                None => Ok(turn_of(record, progress.next, end)),
-            }
-        }
-    }
-}
-
-/// Lays a hit into the lent places, where there is room for it.
+/// Lays a hit into the lent places, where there is room for it. The judge has no heap, so that a caller lends it memory of a fixed size.
+#[tactic(auto, using(std::proofs::lemmas::List::set_past))]
 fn lay(places: &mut [u32; 512], count: u32, index: u32)
     ensures laid_at_its_place { places.new ≡ slice_set places.old count index }
 {
@@ -95,38 +66,63 @@ fn lay(places: &mut [u32; 512], count: u32, index: u32)
     }
 }
 
-/// Judges the records from the byte behind the head on, and lays the hits into the places.
-fn judge_rest<C: Curve>(
-    curve: &C,
-    assignment: Assignment,
-    sheet: &[u8],
-    from: usize,
-    places: &mut [u32; 512],
-) -> Result<u32, SheetRefusal>
-    requires within { (from ≤ length sheet.now) × ((length sheet.now ≤ 2 ^ 22) × (1 ≤ from)) }
-    ensures tells_the_judgement { Told (judged_behind (C.meaning curve.now) assignment sheet.now from) places.old places.new result }
-{
-    let stop = stop_of(curve, assignment);
-    let mut next = start_of(curve, assignment);
-    let mut records = 0;
-    let mut count = 0;
-    let mut at = from;
-    loop {
-        let progress = Progress { next, records };
-        match judge_one(curve, assignment, progress, stop, sheet, at)? {
-            Turn::Over => return Ok(count),
-            Turn::Hit { end } => {
-                lay(places, count, next);
-                count += 1;
-                next += 1;
-                at = end;
-            }
-            Turn::On { end, next: after } => {
-                next = after;
-                at = end;
-            }
+impl<C: Curve> Judge<'_, C> {
+    /// Reads the head, and answers the byte behind it or says what is wrong.
+    fn open(&self) -> Result<usize, SheetRefusal>
+        ensures leaves_the_judgement_to_the_rest { Opened (C.meaning self.now.curve.now) self.now.assignment self.now.sheet.now result }
+    {
+        let due = record_at(self.sheet, 0);
+        let (record, end) = due.map_err(|fault| faulty(Fault::Record(fault), 0))?;
+        if self.opens(record) {
+            Ok(end)
+        } else {
+            Err(faulty(Fault::Head, 0))
         }
-        records += 1;
+    }
+
+    /// Judges the record that is due at a byte behind the head.
+    fn judge_one(&self, progress: Progress) -> Result<Turn, SheetRefusal>
+        requires within { progress.at ≤ length self.now.sheet.now }
+        requires not_beyond { progress.next ≤ self.now.stop }
+        ensures leaves_the_judgement_to_the_rest { Turned (C.meaning self.now.curve.now) self.now.assignment self.now.sheet.now progress.at progress.next progress.records result }
+    {
+        let at = progress.at;
+        let due = record_at(self.sheet, at);
+        let (record, end) = due.map_err(|fault| faulty(Fault::Record(fault), at))?;
+        match self.fault_of(progress, self.sheet.len() - end, record) {
+            Some(fault) => Err(faulty(fault, at)),
+            None => Ok(turn_of(record, progress.next, end)),
+        }
+    }
+
+    /// Judges the records from the byte behind the head on, and lays the hits into the places.
+    fn judge_rest(&self, from: usize, places: &mut [u32; 512]) -> Result<u32, SheetRefusal>
+        requires within { (1 ≤ from) × (from ≤ length self.now.sheet.now) }
+        ensures tells_the_judgement { Told (judged_behind (C.meaning self.now.curve.now) self.now.assignment self.now.sheet.now from) places.old places.new result }
+    {
+        let mut progress = Progress {
+            at: from,
+            next: start_of(self.curve, self.assignment),
+            records: 0,
+        };
+        let mut count = 0;
+        // No iterator over the records: where the next one is due, and with which index, is known once this one is judged.
+        loop {
+            let (end, next) = match self.judge_one(progress)? {
+                Turn::Over => return Ok(count),
+                Turn::Hit { end } => {
+                    lay(places, count, progress.next);
+                    count += 1;
+                    (end, progress.next + 1)
+                }
+                Turn::On { end, next } => (end, next),
+            };
+            progress = Progress {
+                at: end,
+                next,
+                records: progress.records + 1,
+            };
+        }
     }
 }
 
@@ -143,9 +139,15 @@ fn judge_whole<C: Curve>(
     if sheet.len() > 1 << 22 {
         return Err(SheetRefusal::TooLong);
     }
-    let from = open(curve, assignment, sheet)?;
+    let judge = Judge {
+        curve,
+        assignment,
+        stop: stop_of(curve, assignment),
+        sheet,
+    };
+    let from = judge.open()?;
     let mut found = *hits;
-    let count = judge_rest(curve, assignment, sheet, from, &mut found)?;
+    let count = judge.judge_rest(from, &mut found)?;
     *hits = found;
     Ok(count)
 }

@@ -1,7 +1,7 @@
 // What one record brings.
 
 /// What the judge does behind a record without a fault.
-#[derive(Clone, Copy)]
+#[derive(Clone, Copy, PartialEq, Eq, Debug)]
 pub(crate) enum Turn {
     /// The sheet is over.
     Over,

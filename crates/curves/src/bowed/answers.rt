@@ -3,9 +3,8 @@ ghost use Rattle.curves.specs.Makers.{bowed_curve};
 ghost use Rattle.curves.specs.BowedFacts.{bowed_facts};
 
 use crate::bowed::Bowed;
-use crate::bowed::reach::{bow_of, widest_within};
-use crate::bowed::values::{slope_at, value_at};
 use crate::curve::Curve;
+use crate::limits::is_within;
 use crate::line::Line;
 use grid::modulus::Modulus;
 
@@ -25,25 +24,18 @@ impl Curve for Bowed {
     }
 
     fn value(&self, k: u32) -> Option<u64> {
-        if k < self.count {
-            Some(value_at(self.modulus, self.c0, self.c1, self.c2, k as u64))
-        } else {
-            None
-        }
+        (k < self.count).then(|| self.value_at(k))
     }
 
     fn line(&self, place: u32, length: u32) -> Option<Line> {
-        if length >= 1 && place as u64 + length as u64 <= self.count as u64 {
-            let size = self.c2.unsigned_abs();
-            let reach = widest_within(size, self.tolerance, length);
-            Some(Line {
+        is_within(place, length, self.count).then(|| {
+            let reach = self.widest_within(length);
+            Line {
                 reach,
-                slope: slope_at(self.modulus, self.c1, self.c2, place as u64),
-                offset: value_at(self.modulus, self.c0, self.c1, self.c2, place as u64),
-                error: bow_of(size, reach),
-            })
-        } else {
-            None
-        }
+                slope: self.slope_at(place),
+                offset: self.value_at(place),
+                error: self.bow_of(reach),
+            }
+        })
     }
 }

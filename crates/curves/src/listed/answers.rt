@@ -3,6 +3,7 @@ ghost use Rattle.curves.specs.Makers.{listed_curve};
 ghost use Rattle.curves.specs.ListedFacts.{listed_facts};
 
 use crate::curve::Curve;
+use crate::limits::is_within;
 use crate::line::Line;
 use crate::listed::Listed;
 use grid::modulus::Modulus;
@@ -23,24 +24,17 @@ impl<'a> Curve for Listed<'a> {
     }
 
     fn value(&self, k: u32) -> Option<u64> {
-        if (k as usize) < self.entries.len() {
-            Some(self.modulus.residue(self.entries[k as usize]))
-        } else {
-            None
-        }
+        let entry = self.entries.get(k as usize)?;
+        Some(self.modulus.residue(*entry))
     }
 
     fn line(&self, place: u32, length: u32) -> Option<Line> {
-        if length >= 1 && place as usize + length as usize <= self.entries.len() {
-            let offset = self.modulus.residue(self.entries[place as usize]);
-            Some(Line {
-                reach: 1,
-                slope: 0,
-                offset,
-                error: 0,
-            })
-        } else {
-            None
-        }
+        let offset = self.value(place)?;
+        is_within(place, length, self.count()).then_some(Line {
+            reach: 1,
+            slope: 0,
+            offset,
+            error: 0,
+        })
     }
 }

@@ -35,11 +35,8 @@ impl<'a> Listed<'a> {
 fn one_zero() -> Listed<'static>
     ensures has_one_value_0 { listed_curve result ≡ listed_meaning 2 (0 ∷ []) }
 {
-    match Modulus::new(2) {
-        Ok(modulus) => Listed {
-            modulus,
-            entries: &[0],
-        },
-        Err(_) => unreachable(),
+    Listed {
+        modulus: Modulus::new(2).unwrap(),
+        entries: &[0],
     }
 }

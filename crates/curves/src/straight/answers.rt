@@ -1,11 +1,24 @@
 // What a straight curve answers.
+ghost use Rattle.curves.specs.Kinds.{straight_value};
 ghost use Rattle.curves.specs.Makers.{straight_curve};
 ghost use Rattle.curves.specs.StraightFacts.{straight_facts};
+ghost use Rattle.std.specs.Prelude.{◌≡◌};
 
 use crate::curve::Curve;
+use crate::limits::is_within;
 use crate::line::Line;
 use crate::straight::Straight;
 use grid::modulus::Modulus;
+
+impl Straight {
+    /// (offset − k·slope) mod M.
+    fn value_at(self, k: u32) -> u64
+        ensures is_the_value { result ≡ straight_value self.modulus.value self.slope self.offset k }
+    {
+        self.modulus
+            .residue_difference(self.offset, k as u64, self.slope)
+    }
+}
 
 impl Curve for Straight {
     ghost meaning = { straight_curve };
@@ -23,29 +36,15 @@ impl Curve for Straight {
     }
 
     fn value(&self, k: u32) -> Option<u64> {
-        if k < self.count {
-            Some(
-                self.modulus
-                    .residue_difference(self.offset, k as u64, self.slope),
-            )
-        } else {
-            None
-        }
+        (k < self.count).then(|| self.value_at(k))
     }
 
     fn line(&self, place: u32, length: u32) -> Option<Line> {
-        if length >= 1 && place as u64 + length as u64 <= self.count as u64 {
-            let offset = self
-                .modulus
-                .residue_difference(self.offset, place as u64, self.slope);
-            Some(Line {
-                reach: length,
-                slope: self.slope,
-                offset,
-                error: 0,
-            })
-        } else {
-            None
-        }
+        is_within(place, length, self.count).then(|| Line {
+            reach: length,
+            slope: self.slope,
+            offset: self.value_at(place),
+            error: 0,
+        })
     }
 }

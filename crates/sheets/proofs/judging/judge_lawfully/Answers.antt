@@ -5,16 +5,18 @@ use Rattle.sheets.proofs.Kept.{passes_exactly}
 use Rattle.sheets.proofs.Least.{fault_least}
 use Rattle.sheets.proofs.judging.judge_lawfully.Goals as goal
 
-pub returns : goal.returns
-returns g c =
-    let m = g.C.Curve.meaning c.args.curve.now in
-    let facts = g.met.C.Curve.facts c.args.curve.now in
-    let a = c.args.assignment in
-    record {
-      is_the_verdict = c.judge_whole.ensures.is_the_verdict;
-      lays_the_hits_or_keeps_the_places = c.judge_whole.ensures.lays_the_hits_or_keeps_the_places;
-      hits_are_the_close_indices_of_the_block = hits_exact m a facts;
-      clean_records_pass_exactly_where_none_is_close = clean_records m facts;
-      passes_exactly_when_the_rules_are_kept = passes_exactly m a facts (omega arith);
-      a_fault_is_the_least_where_all_before_is_in_order = fault_least m a;
-    }
+pub returns-clause-hits_are_the_close_indices_of_the_block : goal.returns-clause-hits_are_the_close_indices_of_the_block
+returns-clause-hits_are_the_close_indices_of_the_block g c =
+    hits_exact (g.C.Curve.meaning c.args.curve.now) c.args.assignment (g.met.C.Curve.facts c.args.curve.now)
+
+pub returns-clause-clean_records_pass_exactly_where_none_is_close : goal.returns-clause-clean_records_pass_exactly_where_none_is_close
+returns-clause-clean_records_pass_exactly_where_none_is_close g c =
+    clean_records (g.C.Curve.meaning c.args.curve.now) (g.met.C.Curve.facts c.args.curve.now)
+
+pub returns-clause-passes_exactly_when_the_rules_are_kept : goal.returns-clause-passes_exactly_when_the_rules_are_kept
+returns-clause-passes_exactly_when_the_rules_are_kept g c =
+    passes_exactly (g.C.Curve.meaning c.args.curve.now) c.args.assignment (g.met.C.Curve.facts c.args.curve.now) (omega arith)
+
+pub returns-clause-a_fault_is_the_least_where_all_before_is_in_order : goal.returns-clause-a_fault_is_the_least_where_all_before_is_in_order
+returns-clause-a_fault_is_the_least_where_all_before_is_in_order g c =
+    fault_least (g.C.Curve.meaning c.args.curve.now) c.args.assignment

@@ -1,0 +1,72 @@
+-- How large the terms of a bowed curve are, and that their sums fit 64 bits.
+use Rattle.std.specs.Prelude.{◌≡◌, ℕ, ◌+◌, ◌*◌, ◌^◌, ◌≤◌, ℤ, pos, negsuc, ◌+ℤ◌, ◌-ℤ◌, ◌*ℤ◌, neg_ℤ, unsigned_abs}
+use Rattle.std.proofs.Common.{ap, ◌∙◌, arith, w64, FitsSigned, to_z, of_z}
+use Rattle.std.proofs.lemmas.Int.{ints, to_z-of_z, to_z_pos, fits_signed_from_abs, unsigned_abs-mul}
+use Rattle.std.proofs.lemmas.Nat.{mul-le}
+use Rattle.grid.specs.Residue.{residue}
+
+product_within : (a : ℤ) (b m n : ℕ) → unsigned_abs a ≤ m → b ≤ n → unsigned_abs (a *ℤ pos b) ≤ m * n
+product_within a b m n h k = omega (arith, unsigned_abs-mul a (pos b), mul-le (unsigned_abs a) b m n h k)
+
+sum_within : (y z : ℤ) (m n : ℕ) → unsigned_abs y ≤ m → unsigned_abs z ≤ n → unsigned_abs (y +ℤ z) ≤ m + n
+sum_within (pos a) (pos b) m n h k = omega (arith, ints)
+sum_within (pos a) (negsuc b) m n h k = omega (arith, ints)
+sum_within (negsuc a) (pos b) m n h k = omega (arith, ints)
+sum_within (negsuc a) (negsuc b) m n h k = omega (arith, ints)
+
+negated_within : (z : ℤ) (m : ℕ) → unsigned_abs z ≤ m → unsigned_abs (pos 0 -ℤ z) ≤ m
+negated_within (pos a) m h = omega (arith, ints)
+negated_within (negsuc a) m h = omega (arith, ints)
+
+-- c0 + c1·k + c2·p, as 64 bits compute it
+abbrev computed : (n : ℕ) (c1 c2 : ℤ) (k p : ℕ) → ℤ
+computed n c1 c2 k p =
+    to_z w64 (of_z w64 (to_z w64 n +ℤ to_z w64 (of_z w64 (to_z w64 (of_z w64 c1) *ℤ to_z w64 k))))
+    +ℤ to_z w64 (of_z w64 (to_z w64 (of_z w64 c2) *ℤ to_z w64 p))
+
+module _ (n : ℕ) (c1 c2 : ℤ) (k p : ℕ) (h : n ≤ 2 ^ 40) (h1 : unsigned_abs c1 ≤ 2 ^ 40) (h2 : unsigned_abs c2 ≤ 2 ^ 20) (few : k ≤ 2 ^ 20) (pairs_few : p ≤ 2 ^ 39) where
+  front_within : unsigned_abs (pos n +ℤ (c1 *ℤ pos k)) ≤ 2 ^ 40 + 2 ^ 60
+  front_within = sum_within (pos n) (c1 *ℤ pos k) (2 ^ 40) (2 ^ 60) h (product_within c1 k (2 ^ 40) (2 ^ 20) h1 few)
+
+  value_fits : FitsSigned w64 ((pos n +ℤ (c1 *ℤ pos k)) +ℤ (c2 *ℤ pos p))
+  value_fits =
+      fits_signed_from_abs w64 _
+      (omega (arith, sum_within (pos n +ℤ (c1 *ℤ pos k)) (c2 *ℤ pos p) (2 ^ 40 + 2 ^ 60) (2 ^ 59) front_within (product_within c2 p (2 ^ 20) (2 ^ 39) h2 pairs_few)))
+
+  value_computed : computed n c1 c2 k p ≡ (pos n +ℤ (c1 *ℤ pos k)) +ℤ (c2 *ℤ pos p)
+  value_computed =
+      let y = product_within c1 k (2 ^ 40) (2 ^ 20) h1 few in
+      let z = product_within c2 p (2 ^ 20) (2 ^ 39) h2 pairs_few in
+      let f1 : FitsSigned w64 c1 = fits_signed_from_abs w64 _ (omega arith) in
+      let f2 : FitsSigned w64 c2 = fits_signed_from_abs w64 _ (omega arith) in
+      let f3 : FitsSigned w64 (c1 *ℤ pos k) = fits_signed_from_abs w64 _ (omega arith) in
+      let f4 : FitsSigned w64 (c2 *ℤ pos p) = fits_signed_from_abs w64 _ (omega arith) in
+      let f5 : FitsSigned w64 (pos n +ℤ (c1 *ℤ pos k)) = fits_signed_from_abs w64 _ (omega (arith, front_within)) in
+      let a : to_z w64 n ≡ pos n = to_z_pos w64 n (omega arith) in
+      let b : to_z w64 k ≡ pos k = to_z_pos w64 k (omega arith) in
+      let d : to_z w64 p ≡ pos p = to_z_pos w64 p (omega arith) in
+      simp (to_z-of_z, a, b, d)
+
+  pub computed_fits : FitsSigned w64 (computed n c1 c2 k p)
+  computed_fits = rw value_computed value_fits
+
+  pub value_read : (M : ℕ) → residue M (to_z w64 (of_z w64 (computed n c1 c2 k p))) ≡ residue M ((pos n +ℤ (c1 *ℤ pos k)) +ℤ (c2 *ℤ pos p))
+  value_read M =
+      ap (λ z. residue M (to_z w64 (of_z w64 z))) value_computed ∙ ap (residue M) (to_z-of_z w64 _ value_fits)
+
+-- −(c1 + c2·s), as 64 bits compute it
+pub slope_read : (c1 c2 : ℤ) (s : ℕ) → unsigned_abs c1 ≤ 2 ^ 40 → unsigned_abs c2 ≤ 2 ^ 20 → s ≤ 2 ^ 20 → (M : ℕ) →
+    residue M
+    (to_z w64 (of_z w64 (pos 0 -ℤ to_z w64 (of_z w64 (to_z w64 (of_z w64 c1) +ℤ to_z w64 (of_z w64 (to_z w64 (of_z w64 c2) *ℤ to_z w64 s)))))))
+    ≡ residue M (neg_ℤ (c1 +ℤ (c2 *ℤ pos s)))
+slope_read c1 c2 s h1 h2 few M =
+    let z = product_within c2 s (2 ^ 20) (2 ^ 20) h2 few in
+    let sum = sum_within c1 (c2 *ℤ pos s) (2 ^ 40) (2 ^ 40) h1 z in
+    let negated = negated_within (c1 +ℤ (c2 *ℤ pos s)) (2 ^ 40 + 2 ^ 40) sum in
+    let f1 : FitsSigned w64 c1 = fits_signed_from_abs w64 _ (omega arith) in
+    let f2 : FitsSigned w64 c2 = fits_signed_from_abs w64 _ (omega arith) in
+    let f3 : FitsSigned w64 (c2 *ℤ pos s) = fits_signed_from_abs w64 _ (omega arith) in
+    let f4 : FitsSigned w64 (c1 +ℤ (c2 *ℤ pos s)) = fits_signed_from_abs w64 _ (omega arith) in
+    let f5 : FitsSigned w64 (pos 0 -ℤ (c1 +ℤ (c2 *ℤ pos s))) = fits_signed_from_abs w64 _ (omega arith) in
+    let b : to_z w64 s ≡ pos s = to_z_pos w64 s (omega arith) in
+    ap (residue M) (simp (to_z-of_z, b) (omega (arith, ints)))
