@@ -2,14 +2,14 @@ ghost use Rattle.std.specs.Prelude.{◌≡◌, ◌+◌, ◌*◌, ◌^◌, ◌<�
 ghost use Rattle.reports.specs.Limits.{threshold_of};
 
 /// How the function whose curve is surveyed is rounded.
-#[derive(Clone, Copy)]
+#[derive(Clone, Copy, PartialEq, Eq, Debug)]
 pub enum Mode {
     Directed,
     Nearest,
 }
 
 /// What a line's first letter says of its curve.
-#[derive(Clone, Copy)]
+#[derive(Clone, Copy, PartialEq, Eq, Debug)]
 pub enum Kind {
     Straight,
     Bowed,
@@ -20,7 +20,7 @@ pub enum Kind {
 pub const MOST_LISTED: usize = 32;
 
 /// The numbers that give a curve its values.
-#[derive(Clone, Copy)]
+#[derive(Clone, Copy, PartialEq, Eq, Debug)]
 pub enum Shape {
     /// (offset − k·slope) mod modulus at each index k.
     Straight { slope: u64, offset: u64 },
@@ -31,7 +31,7 @@ pub enum Shape {
 }
 
 /// What a line asks for, as it stands there.
-#[derive(Clone, Copy)]
+#[derive(Clone, Copy, PartialEq, Eq, Debug)]
 pub struct Order {
     pub mode: Mode,
     pub modulus: u64,
