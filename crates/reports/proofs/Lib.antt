@@ -1,6 +1,6 @@
 mod Digits
-mod Fields
-mod Numbers
+mod Commas
+mod Values
 mod Judged
 mod Passing
 mod Gathered

@@ -1,10 +1,12 @@
 #![tactic(auto)]
 //! From the bytes of one line of input to the bytes that are printed for it.
 pub mod book;
+mod fields;
 pub mod hit;
 mod kept;
 pub mod limits;
 mod listing;
+mod numbers;
 pub mod order;
 pub mod output;
 pub mod points;

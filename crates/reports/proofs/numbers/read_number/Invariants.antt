@@ -1,6 +1,6 @@
 use Rattle.std.proofs.Common.{◌≡◌, ◌^◌, ◌<◌, drop}
 use Rattle.reports.specs.Lines.{written}
-use Rattle.reports.proofs.reader.read_number.Given as goal
+use Rattle.reports.proofs.numbers.read_number.Given as goal
 
 abbrev pub invariant-loop-byte : goal.invariant-loop-byte
 invariant-loop-byte l =
