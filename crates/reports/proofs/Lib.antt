@@ -1,8 +1,6 @@
 mod Digits
 mod Commas
 mod Values
-mod Judged
 mod Passing
 mod Gathered
-mod Texts
 mod Telling

@@ -9,6 +9,7 @@ mod listing;
 mod numbers;
 pub mod order;
 pub mod output;
+mod point;
 pub mod points;
 pub mod reader;
 pub mod refusal;

@@ -1,6 +1,6 @@
 use Rattle.std.proofs.Common.{rules}
 use Rattle.reports.specs.Listing.{refused_line}
-use Rattle.reports.proofs.listing.refused_line.Goals as goal
+use Rattle.reports.proofs.output.refused.Goals as goal
 
 pub returns : goal.returns
 unfolding refused_line
