@@ -15,7 +15,7 @@ pub(crate) struct Listing<'a> {
 impl<'a> Listing<'a> {
     pub(crate) fn new(number: u32, book: &'a Book) -> Listing<'a>
         ensures has_the_number { result.number ≡ number }
-        ensures has_the_book { result.book ≡ book }
+        ensures has_the_book { result.book.now ≡ book.now }
     {
         Listing { number, book }
     }
