@@ -43,6 +43,7 @@ fn read_values(mut fields: Fields<'_>, count: u64) -> Option<[u64; MOST_LISTED]>
     let mut values = [0; MOST_LISTED];
     for i in 0..count {
         let value = fields.number()?;
+        // By index, since the contract of `get_mut` says nothing of the array after a write.
         if i < MOST_LISTED as u64 {
             values[i as usize] = value;
         }
