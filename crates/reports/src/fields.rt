@@ -1,4 +1,4 @@
-ghost use Rattle.std.specs.Prelude.{◌≡◌, [], ◌==◌, drop, length, position, slice_index_or};
+ghost use Rattle.std.specs.Prelude.{◌≡◌, ◌==◌, length, position};
 ghost use Rattle.reports.specs.Lines.{fields, number as number_first, signed_number};
 ghost use Rattle.std.specs.Option.{option_map};
 

@@ -1,26 +1,29 @@
-use Rattle.std.proofs.Common.{rules, ◌≢◌, ◌≡◌, ℕ, ◌-◌, ◌<◌, ◌≤◌, List, length, Some, slice_get, sym, ◌∙◌, ⊎_elim, arith}
+use Rattle.std.proofs.Common.{rules, ◌≢◌, ◌≡◌, ◌-◌, [], ◌∷◌, ◌++◌, length, Some, slice_get, refl, sym, append-nil}
 use Rattle.std.specs.List.{All}
-use Rattle.std.specs.Io.{StopsAt}
-use Rattle.std.proofs.lemmas.Bool.{cases_lt}
-use Rattle.std.proofs.lemmas.List.{get_or-take, length-take-le}
-use Rattle.std.proofs.lemmas.Option.{get_or_from_slice_get}
+use Rattle.survey.proofs.Ends.{no_line_end, first_bytes}
 use Rattle.survey.proofs.lines.next_line.Goals as goal
 
--- where no byte but the last may be a line end, and the last one is none
-no_line_end : (xs : List ℕ) (v : ℕ) → StopsAt xs 10 → slice_get xs (length xs - 1) ≡ Some v → v ≢ 10 → All (λ c. c ≢ 10) xs
-no_line_end xs v s e n =
-    λ k d l h.
-    ⊎_elim
-    (λ (a : k < length xs - 1). s k d (omega (arith, length-take-le (length xs - 1) xs (omega arith))) (get_or-take (length xs - 1) xs k d a ∙ h))
-    (λ (b : length xs - 1 ≤ k).
-    let i : length xs - 1 ≡ k = omega arith in
-    n (sym (get_or_from_slice_get xs k v d (rw (sym i) e)) ∙ h))
-    (cases_lt k (length xs - 1))
+pub returns-in-None-clause-keeps_the_first_bytes : goal.returns-in-None-clause-keeps_the_first_bytes
+returns-in-None-clause-keeps_the_first_bytes g c =
+    let xs = c.read_part.new.line.items in
+    let a : All (λ z. z ≢ 10) xs = search rules in
+    first_bytes _ c.args.most xs xs [] c.in_ok-read_part.ensures.takes_the_first_bytes (sym (append-nil xs)) a refl
+
+pub returns-in-Some-eq10-clause-keeps_the_first_bytes : goal.returns-in-Some-eq10-clause-keeps_the_first_bytes
+returns-in-Some-eq10-clause-keeps_the_first_bytes g c =
+    let xs = c.read_part.new.line.items in
+    let kept = c.pop.new.self.items in
+    let e : xs ≡ kept ++ 10 ∷ [] = search rules in
+    let a : All (λ z. z ≢ 10) kept = search rules in
+    first_bytes _ c.args.most xs kept (10 ∷ []) c.in_ok-read_part.ensures.takes_the_first_bytes e a refl
 
 pub returns-in_ok-skip_until-in-Some : goal.returns-in_ok-skip_until-in-Some
 returns-in_ok-skip_until-in-Some g c =
-    let xs = c.read_until.new.buf.items in
-    let s : StopsAt xs 10 = search rules in
+    let xs = c.read_part.new.line.items in
     let e : slice_get xs (length xs - 1) ≡ Some c.in-Some.field-0.now = search rules in
     let n : c.in-Some.field-0.now ≢ 10 = search rules in
-    record { keeps_no_line_end = no_line_end xs _ s e n }
+    let a = no_line_end xs _ c.in_ok-read_part.ensures.stops_at_a_line_end e n in
+    record {
+      keeps_no_line_end = a;
+      keeps_the_first_bytes = first_bytes _ c.args.most xs xs [] c.in_ok-read_part.ensures.takes_the_first_bytes (sym (append-nil xs)) a refl;
+    }
