@@ -13,6 +13,7 @@ fn read_part<R: BufRead>(input: &mut R, line: &mut Vec<u8>, most: usize) -> io::
     ensures takes_the_first_bytes { OnOk result (IfSome (R.remaining input.old) (λ xs. line.new.items ≡ take_through 10 (take most xs))) }
 {
     line.clear();
+    // Not input.by_ref().take(..): by_ref promises nothing of the reader that it lends.
     Read::take(&mut *input, most as u64).read_until(b'\n', line)
 }
 
