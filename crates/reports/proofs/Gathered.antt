@@ -1,12 +1,13 @@
 -- The close points that were found so far, and all of them.
-use Rattle.std.proofs.Common.{◌≡◌, ℕ, ◌+◌, ◌^◌, ◌<◌, ◌≤◌, true, ltb, List, [], ◌∷◌, ◌++◌, map, length, Some, None, Ok, Err, sym, ap, ◌∙◌, subst, add-one, arith}
+use Rattle.std.proofs.Common.{◌≡◌, ℕ, ◌+◌, ◌<◌, ◌≤◌, true, ltb, List, [], ◌∷◌, ◌++◌, map, length, Some, None, Ok, Err, sym, ap, ◌∙◌, add-one, arith}
 use Rattle.curves.specs.Meaning.{Meaning, value_of}
-use Rattle.std.specs.List.{AllByRecursion}
-use Rattle.std.proofs.ByRecursion.{All-push}
 use Rattle.std.proofs.lemmas.List.{length-append, length-map, map_push}
 use Rattle.std.proofs.lemmas.Bool.{lt-ltb, le-ltb, cond-true, cond-false}
 use Rattle.reports.proofs.Passing.{one_more_passes, none_between, passing_grows}
-use Rattle.reports.specs.Close.{passing, booked, close, hit_at, hits_below, hits_of}
+use Rattle.curves.specs.Kinds.{shifted_meaning}
+use Rattle.reports.specs.Close.{passing, booked, close, hit_at, hits_below, hits_of, unshifted, shift_of, meaning_of}
+use Rattle.reports.specs.Limits.{threshold_of}
+use Rattle.reports.specs.declared.order.Order.{Order}
 use Rattle.scan.specs.Nexts.{LeastClose}
 use Rattle.scan.specs.Passed.{NoneClose}
 use Rattle.reports.specs.declared.hit.Hit.{Hit}
@@ -32,12 +33,6 @@ pub one_more_entered : (m : Meaning) (D i t k v : ℕ) (before after : List Hit)
 one_more_entered m D i t k v before after f e a b =
     a ∙ ap (λ (n : ℕ). before ++ record { index = k; value = n } ∷ []) e ∙ ap (λ (z : List Hit). z ++ hit_at m k ∷ []) b ∙ sym (next_found m D i t k f)
 
--- after is before with one point more, whose value fits too
-pub one_more_fits : (before after : List Hit) (h : Hit) → after ≡ before ++ h ∷ [] → AllByRecursion (λ (x : Hit). x.value < 2 ^ 40) before → h.value < 2 ^ 40 →
-    AllByRecursion (λ (x : Hit). x.value < 2 ^ 40) after
-one_more_fits before after h e a b =
-    subst (λ (z : List Hit). AllByRecursion (λ (x : Hit). x.value < 2 ^ 40) z) (sym e) (All-push (λ (x : Hit). x.value < 2 ^ 40) before h a b)
-
 -- 512 close points below i and one more
 pub too_many_found : (m : Meaning) (D i t k : ℕ) (hs : List Hit) → LeastClose m D i t k → hs ≡ hits_below m D i → length hs ≡ 512 →
     booked (hits_of m D) ≡ Err BookFull
@@ -54,3 +49,11 @@ pub all_found : (m : Meaning) (D i : ℕ) (hs : List Hit) → i ≤ m.count → 
 all_found m D i hs h f e l =
     let w : hs ≡ hits_of m D = e ∙ ap (map (hit_at m)) (sym (none_found_between m D i m.count h f)) in
     ap Ok w ∙ sym (cond-false (ltb 512 (length (hits_of m D))) (Err BookFull) (Ok (hits_of m D)) (le-ltb 512 (length (hits_of m D)) (omega (arith, ap length w))))
+
+-- the points of a curve m with the shift t are those of the order, where the curve, the shift and the threshold are
+pub same_points : (o : Order) (m : Meaning) (t D : ℕ) → m ≡ unshifted o.modulus o.count o.half_width o.shape → t ≡ shift_of o → D ≡ threshold_of o →
+    booked (hits_of (shifted_meaning m t) D) ≡ booked (hits_of (meaning_of o) (threshold_of o))
+same_points o m t D e s d =
+    ap (λ (z : Meaning). booked (hits_of (shifted_meaning z t) D)) e
+    ∙ ap (λ (z : ℕ). booked (hits_of (shifted_meaning (unshifted o.modulus o.count o.half_width o.shape) z) D)) s
+    ∙ ap (λ (z : ℕ). booked (hits_of (meaning_of o) z)) d

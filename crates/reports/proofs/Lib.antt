@@ -1,8 +1,6 @@
 mod Digits
-mod Fields
-mod Numbers
-mod Judged
+mod Commas
+mod Values
 mod Passing
 mod Gathered
-mod Texts
 mod Telling

@@ -1,4 +1,4 @@
--- What is left of a line behind a comma. Only contracts of functions inside the crate cite this.
+-- What is left of a line behind a comma. Only the model of a type inside the crate cites this.
 use Rattle.std.specs.Prelude.{ℕ, List, [], Some, None, Option}
 use Rattle.reports.specs.Lines.{fields}
 

@@ -32,11 +32,11 @@ fn coefficients_within(modulus: u64, shape: Shape) -> bool
 pub fn judge(order: Order) -> Result<(), LineRefusal>
     ensures refuses_by_the_first_limit_passed { result ≡ judged order }
 {
-    let _modulus = Modulus::new(order.modulus)?;
-    if order.count < 1 || order.count > most_points(order.shape) {
+    Modulus::new(order.modulus)?;
+    if !(1..=most_points(order.shape)).contains(&order.count) {
         return Err(LineRefusal::Count);
     }
-    if matches!(order.mode, Mode::Nearest) && order.modulus % 2 == 1 {
+    if order.mode == Mode::Nearest && order.modulus % 2 == 1 {
         return Err(LineRefusal::OddModulus);
     }
     // The threshold is twice the half width and 1 more.

@@ -1,26 +1,58 @@
 ghost use Rattle.std.specs.Prelude.{◌≡◌, ◌+◌, ◌*◌, ◌^◌, ◌<◌};
 ghost use Rattle.reports.specs.Limits.{threshold_of};
+ghost use Rattle.reports.specs.Lines.{kind_of, mode_of};
+
+use crate::refusal::LineRefusal;
 
 /// How the function whose curve is surveyed is rounded.
-#[derive(Clone, Copy)]
+#[derive(Clone, Copy, PartialEq, Eq, Debug)]
 pub enum Mode {
     Directed,
     Nearest,
 }
 
+impl TryFrom<&[u8]> for Mode {
+    type Error = LineRefusal;
+
+    ghost try_from_gives = { λ field mode. mode ≡ mode_of field.now };
+
+    fn try_from(field: &[u8]) -> Result<Mode, LineRefusal> {
+        match field {
+            b"D" => Ok(Mode::Directed),
+            b"N" => Ok(Mode::Nearest),
+            _ => Err(LineRefusal::Letter),
+        }
+    }
+}
+
 /// What a line's first letter says of its curve.
-#[derive(Clone, Copy)]
+#[derive(Clone, Copy, PartialEq, Eq, Debug)]
 pub enum Kind {
     Straight,
     Bowed,
     Listed,
 }
 
+impl TryFrom<&[u8]> for Kind {
+    type Error = LineRefusal;
+
+    ghost try_from_gives = { λ field kind. kind ≡ kind_of field.now };
+
+    fn try_from(field: &[u8]) -> Result<Kind, LineRefusal> {
+        match field {
+            b"S" => Ok(Kind::Straight),
+            b"B" => Ok(Kind::Bowed),
+            b"L" => Ok(Kind::Listed),
+            _ => Err(LineRefusal::Letter),
+        }
+    }
+}
+
 /// The most values that a line may list.
 pub const MOST_LISTED: usize = 32;
 
 /// The numbers that give a curve its values.
-#[derive(Clone, Copy)]
+#[derive(Clone, Copy, PartialEq, Eq, Debug)]
 pub enum Shape {
     /// (offset − k·slope) mod modulus at each index k.
     Straight { slope: u64, offset: u64 },
@@ -31,7 +63,7 @@ pub enum Shape {
 }
 
 /// What a line asks for, as it stands there.
-#[derive(Clone, Copy)]
+#[derive(Clone, Copy, PartialEq, Eq, Debug)]
 pub struct Order {
     pub mode: Mode,
     pub modulus: u64,

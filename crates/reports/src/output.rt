@@ -1,22 +1,27 @@
 ghost use Rattle.std.specs.Prelude.{◌≡◌, ℕ, List, take, IfOk, string_bytes};
+ghost use Rattle.reports.specs.Listing.{refused_line};
 ghost use Rattle.reports.specs.Output.{output};
 
 use crate::kept::enough_bytes;
-use crate::listing::{listing, refused_line};
+use crate::listing::Listing;
 use crate::points::close_points;
 use crate::reader::read;
+use crate::refusal::LineRefusal;
 use std::alloc::{AllocError, Global};
+
+fn refused(heap: Global, number: u32, refusal: LineRefusal) -> Result<String, AllocError>
+    ensures is_the_refused_line { IfOk result (λ t. string_bytes t ≡ refused_line number refusal) }
+{
+    format!(in heap; "curve {number} refused {}\n", refusal.number())
+}
 
 /// What is printed for the line with that number, given without its end.
 pub fn line_output(heap: Global, number: u32, line: &[u8]) -> Result<String, AllocError>
     ensures is_the_output_of_the_line { IfOk result (λ t. string_bytes t ≡ output number line.now) }
 {
-    match read(line) {
-        Ok(order) => match close_points(order) {
-            Ok(book) => listing(heap, number, order.threshold(), book.as_slice()),
-            Err(refusal) => refused_line(heap, number, refusal),
-        },
-        Err(refusal) => refused_line(heap, number, refusal),
+    match read(line).and_then(close_points) {
+        Ok(book) => Listing::new(number, &book).to_string(heap),
+        Err(refusal) => refused(heap, number, refusal),
     }
 }
 

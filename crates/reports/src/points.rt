@@ -1,5 +1,5 @@
 ghost use Rattle.std.specs.Prelude.{◌≡◌, ◌^◌, ◌<◌, ◌≤◌, length, IfOk, Ok, OnOk};
-ghost use Rattle.reports.specs.Books.{held, held_by};
+ghost use Rattle.reports.specs.Books.{held, held_by, threshold_in};
 ghost use Rattle.reports.specs.Close.{booked, found, hits_of, meaning_of, shift_of};
 ghost use Rattle.reports.specs.Limits.{judged, threshold_of};
 ghost use Rattle.std.specs.List.{AllByRecursion};
@@ -18,17 +18,16 @@ use scan::next_close;
 
 /// Looks again and again behind the close index that was found last.
 fn gather<C: Curve>(curve: &C, threshold: u64) -> Result<Book, LineRefusal>
+    requires threshold_fits { threshold ≤ 2 ^ 40 }
     ensures holds_the_close_points { held_by result ≡ booked (hits_of (C.meaning curve.now) threshold) }
-    ensures values_fit { IfOk result (λ b. AllByRecursion (λ h. h.value < 2 ^ 40) (held b)) }
+    ensures has_the_threshold { IfOk result (λ b. threshold_in b ≡ threshold) }
 {
     let count = curve.count();
-    let mut book = Book::new();
+    let mut book = Book::new(threshold);
     let mut from = 0;
     while let Some(index) = next_close::<u64, C>(curve, threshold, from, count) {
-        match curve.value(index) {
-            Some(value) => book.push(Hit { index, value })?,
-            None => unreachable(),
-        }
+        let value = curve.value(index).unwrap();
+        book.push(Hit { index, value })?;
         from = index + 1;
     }
     Ok(book)
@@ -49,22 +48,25 @@ fn shift(order: Order) -> u64
 fn gather_shape(order: Order) -> Result<Book, LineRefusal>
     requires within_limits { judged order ≡ Ok tt }
     ensures holds_the_close_points { held_by result ≡ booked (hits_of (meaning_of order) (threshold_of order)) }
-    ensures values_fit { IfOk result (λ b. AllByRecursion (λ h. h.value < 2 ^ 40) (held b)) }
+    ensures has_the_threshold { IfOk result (λ b. threshold_in b ≡ threshold_of order) }
 {
     let threshold = order.threshold();
     let shift = shift(order);
     match order.shape {
         Shape::Straight { slope, offset } => {
-            match Straight::new(order.modulus, order.count, slope, offset) {
-                Ok(curve) => gather(&Shifted::new(curve, shift), threshold),
-                Err(_) => unreachable(),
-            }
+            let curve = Straight::new(order.modulus, order.count, slope, offset).unwrap();
+            gather(&Shifted::new(curve, shift), threshold)
         }
         Shape::Bowed { c0, c1, c2 } => {
-            match Bowed::new(order.modulus, order.count, c0, c1, c2, order.half_width) {
-                Ok(curve) => gather(&Shifted::new(curve, shift), threshold),
-                Err(_) => unreachable(),
-            }
+            let curve = Bowed::new(
+                order.modulus,
+                order.count,
+                c0,
+                c1,
+                c2,
+                order.half_width,
+            ).unwrap();
+            gather(&Shifted::new(curve, shift), threshold)
         }
         Shape::Listed { values } => {
             let curve = Listed::new(order.modulus, &values[0..order.count as usize]);
@@ -76,6 +78,7 @@ fn gather_shape(order: Order) -> Result<Book, LineRefusal>
 /// The close points of an order's curve, rising.
 pub fn close_points(order: Order) -> Result<Book, LineRefusal>
     ensures holds_the_close_points { held_by result ≡ found order }
+    ensures has_the_threshold { IfOk result (λ b. threshold_in b ≡ threshold_of order) }
     ensures threshold_fits { OnOk result (threshold_of order ≤ 2 ^ 40) }
     ensures few_points { IfOk result (λ b. length (held b) ≤ 512) }
     ensures values_fit { IfOk result (λ b. AllByRecursion (λ h. h.value < 2 ^ 40) (held b)) }

@@ -5,7 +5,7 @@ ghost use Rattle.reports.specs.Refusals.{refusal_number};
 use grid::refusal::ModulusRefusal;
 
 /// Why a line is refused.
-#[derive(Clone, Copy)]
+#[derive(Clone, Copy, PartialEq, Eq, Debug)]
 pub enum LineRefusal {
     /// The line is too long, or the letter of its kind or mode is wrong or missing.
     Letter,

@@ -1,53 +1,41 @@
 //! The lines of an input, of which only the first bytes are kept.
-ghost use Rattle.std.specs.Prelude.{◌≡◌, ℕ, ◌-◌, ◌<◌, ◌≤◌, true, ◌++◌, length, take, is_ok, vec_len, ◌≢◌, slice_index};
+ghost use Rattle.std.specs.Prelude.{◌≡◌, ◌≢◌, ◌==◌, take, OnOk, IfSome};
+ghost use Rattle.std.specs.Io.{StopsAt};
+ghost use Rattle.std.specs.Io.BufRead.{take_through};
+ghost use Rattle.std.specs.List.{All, before_first};
 
-use std::alloc::AllocError;
 use std::io;
-use std::io::{BufRead, BufReader, Stdin};
+use std::io::{BufRead, Read};
 
-/// The place of the first line end, or the number of bytes where there is none.
-fn line_end(bytes: &[u8]) -> usize
-    ensures stays_within { result ≤ length bytes.now }
-    ensures no_end_before { (k : ℕ) → k < result → slice_index bytes.now k ≢ 10 }
-    ensures an_end_there { result < length bytes.now → slice_index bytes.now result ≡ 10 }
+/// Reads up to `most` bytes, through the next line end.
+fn read_part<R: BufRead>(input: &mut R, line: &mut Vec<u8>, most: usize) -> io::Result<usize>
+    ensures stops_at_a_line_end { OnOk result (StopsAt line.new.items 10) }
+    ensures takes_the_first_bytes { OnOk result (IfSome (R.remaining input.old) (λ xs. line.new.items ≡ take_through 10 (take most xs))) }
 {
-    for (i, byte) in bytes.iter().enumerate() {
-        if *byte == b'\n' {
-            return i;
-        }
-    }
-    bytes.len()
-}
-
-/// Takes up as much of the part of a line as it may still keep of `most` bytes.
-fn keep(line: &mut Vec<u8>, part: &[u8], most: usize) -> Result<(), AllocError>
-    ensures takes_up_what_has_room { is_ok result ≡ true → line.new.items ≡ line.old.items ++ take (most - vec_len line.old) part.now }
-{
-    let room = most.saturating_sub(line.len());
-    line.extend_from_slice(&part[0..room.min(part.len())])
+    line.clear();
+    // Not input.by_ref().take(..): by_ref promises nothing of the reader that it lends.
+    Read::take(&mut *input, most as u64).read_until(b'\n', line)
 }
 
 /// Reads the next line without its end, keeps up to `most` bytes of it, and answers whether there was one.
-pub(crate) fn next_line(
-    input: &mut BufReader<Stdin>,
+pub(crate) fn next_line<R: BufRead>(
+    input: &mut R,
     line: &mut Vec<u8>,
     most: usize,
-) -> io::Result<bool> {
-    line.clear();
-    let mut begun = false;
-    for _ in 0..u64::MAX {
-        let part = input.fill_buf()?;
-        if part.is_empty() {
-            break;
+) -> io::Result<bool>
+    ensures keeps_no_line_end { OnOk result (All (λ c. c ≢ 10) line.new.items) }
+    ensures keeps_the_first_bytes { OnOk result (IfSome (R.remaining input.old) (λ xs. line.new.items ≡ take most (before_first (λ c. c == 10) xs))) }
+{
+    read_part(input, line, most)?;
+    match line.last() {
+        None => return Ok(false),
+        Some(b'\n') => {
+            line.pop();
         }
-        begun = true;
-        let end = line_end(part);
-        let ended = end < part.len();
-        keep(line, &part[0..end], most)?;
-        input.consume(if ended { end + 1 } else { end });
-        if ended {
-            break;
+        // The end of the line comes behind the bytes that are kept, or the input ends before it.
+        Some(_) => {
+            input.skip_until(b'\n')?;
         }
     }
-    Ok(begun)
+    Ok(true)
 }

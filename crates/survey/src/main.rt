@@ -4,22 +4,25 @@ mod lines;
 
 use lines::next_line;
 use reports::output::{line_output, telling_bytes};
-use std::io::BufReader;
+use std::alloc::Global;
+use std::io::{BufRead, BufReader};
 
-fn run(rt: &HostRuntime) -> anyhow::Result<()> {
-    let mut input = BufReader::new(rt.alloc(), rt.stdin())?;
-    let mut line = Vec::new(rt.alloc());
+/// Prints the answer to each line of the input.
+fn run<R: BufRead>(rt: &impl Print, heap: Global, input: &mut R) -> anyhow::Result<()> {
+    let mut line = Vec::new(heap);
     let most = telling_bytes();
     for number in 1..10_000u32 {
-        if !next_line(&mut input, &mut line, most)? {
+        if !next_line(input, &mut line, most)? {
             break;
         }
-        let text = line_output(rt.alloc(), number, line.as_slice())?;
+        let text = line_output(heap, number, line.as_slice())?;
         print!(rt; "{text}")?;
     }
     Ok(())
 }
 
 fn main(rt: HostRuntime) -> anyhow::Result<()> {
-    run(&rt)
+    // The reader over the runtime's own handle (`rt.reader()`) would rest on one C function more.
+    let mut input = BufReader::new(rt.alloc(), rt.stdin())?;
+    run(&rt, rt.alloc(), &mut input)
 }
