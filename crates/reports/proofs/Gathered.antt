@@ -1,54 +1,68 @@
--- The close points that were found so far, and all of them.
-use Rattle.std.proofs.Common.{◌≡◌, ℕ, ◌+◌, ◌<◌, ◌≤◌, true, ltb, List, [], ◌∷◌, ◌++◌, map, length, Some, None, Ok, Err, sym, ap, ◌∙◌, add-one, arith}
-use Rattle.curves.specs.Meaning.{Meaning, value_of}
-use Rattle.std.proofs.lemmas.List.{length-append, length-map, map_push}
-use Rattle.std.proofs.lemmas.Bool.{lt-ltb, le-ltb, cond-true, cond-false}
-use Rattle.reports.proofs.Passing.{one_more_passes, none_between, passing_grows}
+-- The close points that were entered so far, and all of them.
+use Rattle.std.proofs.Common.{◌≡◌, ℕ, zero, suc, ◌+◌, ◌-◌, ◌<◌, ◌≤◌, ltb, List, [], ◌∷◌, ◌++◌, map, length, Some, None, Ok, Err, sym, ap, ◌∙◌, subst, append_assoc, append-nil, arith}
+use Rattle.std.specs.List.{AllByRecursion}
+use Rattle.std.proofs.lemmas.List.{length-append}
+use Rattle.std.proofs.lemmas.Bool.{cond_both, lt-ltb, le-ltb, cond-true, cond-false}
+use Rattle.curves.specs.Closes.{close_among, close_between}
 use Rattle.curves.specs.Kinds.{shifted_meaning}
-use Rattle.reports.specs.Close.{passing, booked, close, hit_at, hits_below, hits_of, unshifted, shift_of, meaning_of}
+use Rattle.curves.specs.Meaning.{Meaning, value_of}
+use Rattle.reports.specs.Close.{booked, hit_at, hits_of, unshifted, shift_of, meaning_of}
 use Rattle.reports.specs.Limits.{threshold_of}
-use Rattle.reports.specs.declared.order.Order.{Order}
-use Rattle.scan.specs.Nexts.{LeastClose}
-use Rattle.scan.specs.Passed.{NoneClose}
 use Rattle.reports.specs.declared.hit.Hit.{Hit}
+use Rattle.reports.specs.declared.order.Order.{Order}
 use Rattle.reports.specs.declared.refusal.LineRefusal.TheVariants.{BookFull}
+use Rattle.reports.proofs.Passing.{close_pass}
 
 pub value_there : (m : Meaning) (k v : ℕ) → k < m.count → Some v ≡ value_of m k → v ≡ m.value k
 value_there m k v h e = let f = e ∙ cond-true (ltb k m.count) (Some (m.value k)) None (lt-ltb k m.count h) in cc
 
-none_found_between : (m : Meaning) (D i j : ℕ) → i ≤ j → NoneClose m D i j → passing (close m D) j ≡ passing (close m D) i
-none_found_between m D i j h f = none_between (close m D) i j h (λ k a b. le-ltb (m.value k) D (f k a b))
+-- ---- the indices of close points are below the count
 
--- the least close index from i on is the one that is listed next
-pub next_found : (m : Meaning) (D i t k : ℕ) → LeastClose m D i t k → hits_below m D (k + 1) ≡ hits_below m D i ++ hit_at m k ∷ []
-next_found m D i t k f =
-    let near : close m D k ≡ true = lt-ltb (m.value k) D f.close in
-    ap (hits_below m D) (add-one k)
-    ∙ ap (map (hit_at m)) (one_more_passes (close m D) k near ∙ ap (λ (z : List ℕ). z ++ k ∷ []) (none_found_between m D i k f.from f.before))
-    ∙ map_push (hit_at m) (passing (close m D) i) k
+abbrev Within : ℕ → List Hit → Type 0
+Within n hs = AllByRecursion (λ (h : Hit). h.index < n) hs
 
--- before is what was entered up to i, and after has the point with the index k and its value v too
-pub one_more_entered : (m : Meaning) (D i t k v : ℕ) (before after : List Hit) → LeastClose m D i t k → v ≡ m.value k →
-    after ≡ before ++ record { index = k; value = v } ∷ [] → before ≡ hits_below m D i → after ≡ hits_below m D (k + 1)
-one_more_entered m D i t k v before after f e a b =
-    a ∙ ap (λ (n : ℕ). before ++ record { index = k; value = n } ∷ []) e ∙ ap (λ (z : List Hit). z ++ hit_at m k ∷ []) b ∙ sym (next_found m D i t k f)
+within_among : (m : Meaning) (D n s t : ℕ) → s + n ≤ t → Within t (map (hit_at m) (close_among m D s n))
+within_among m D zero s t h = tt
+within_among m D (suc n) s t h =
+    let rest = within_among m D n (s + 1) t (omega arith) in
+    cond_both (ltb (m.value s) D) (s ∷ close_among m D (s + 1) n) (close_among m D (s + 1) n) (λ ks. Within t (map (hit_at m) ks))
+    (λ e. (omega arith, rest))
+    (λ e. rest)
 
--- 512 close points below i and one more
-pub too_many_found : (m : Meaning) (D i t k : ℕ) (hs : List Hit) → LeastClose m D i t k → hs ≡ hits_below m D i → length hs ≡ 512 →
-    booked (hits_of m D) ≡ Err BookFull
-too_many_found m D i t k hs f e l =
-    let a : length (hits_below m D (k + 1)) ≡ 513 =
-    ap length (next_found m D i t k f) ∙ length-append (hits_below m D i) (hit_at m k ∷ []) ∙ ap (λ (n : ℕ). n + 1) (ap length (sym e) ∙ l) in
-    let b = length-map (passing (close m D) (k + 1)) (hit_at m) in
-    let d = length-map (passing (close m D) m.count) (hit_at m) in
-    let g = passing_grows (close m D) (k + 1) m.count (omega (arith, f.within)) in
-    cond-true (ltb 512 (length (hits_of m D))) (Err BookFull) (Ok (hits_of m D)) (lt-ltb 512 (length (hits_of m D)) (omega arith))
+next_within : (n : ℕ) (before behind : List Hit) (h : Hit) → Within n (before ++ h ∷ behind) → h.index < n
+next_within n [] behind h all = all.0
+next_within n (b ∷ before) behind h all = next_within n before behind h all.1
 
-pub all_found : (m : Meaning) (D i : ℕ) (hs : List Hit) → i ≤ m.count → NoneClose m D i m.count → hs ≡ hits_below m D i → length hs ≤ 512 →
-    Ok hs ≡ booked (hits_of m D)
-all_found m D i hs h f e l =
-    let w : hs ≡ hits_of m D = e ∙ ap (map (hit_at m)) (sym (none_found_between m D i m.count h f)) in
-    ap Ok w ∙ sym (cond-false (ltb 512 (length (hits_of m D))) (Err BookFull) (Ok (hits_of m D)) (le-ltb 512 (length (hits_of m D)) (omega (arith, ap length w))))
+-- ---- what was entered before, and the indices that are left
+
+module _ (m : Meaning) (D : ℕ) (before : List Hit) (rest : List ℕ) (all : before ++ map (hit_at m) rest ≡ map (hit_at m) (close_between m D 0 m.count)) where
+  pub next_is_within : (k : ℕ) (ks : List ℕ) → rest ≡ k ∷ ks → k < m.count
+  next_is_within k ks first =
+      next_within m.count before (map (hit_at m) ks) (hit_at m k)
+      (subst (Within m.count) (sym all ∙ ap (λ js. before ++ map (hit_at m) js) first) (within_among m D (m.count - 0) 0 m.count (omega arith)))
+
+  -- one point more was entered
+  pub one_more_entered : (k v : ℕ) (ks : List ℕ) (after : List Hit) → rest ≡ k ∷ ks → v ≡ m.value k → after ≡ before ++ record { index = k; value = v } ∷ [] →
+      after ++ map (hit_at m) ks ≡ map (hit_at m) (close_between m D 0 m.count)
+  one_more_entered k v ks after first value enters =
+      ap (λ hs. hs ++ map (hit_at m) ks) (enters ∙ ap (λ n. before ++ record { index = k; value = n } ∷ []) value)
+      ∙ append_assoc before (hit_at m k ∷ []) (map (hit_at m) ks)
+      ∙ ap (λ js. before ++ map (hit_at m) js) (sym first)
+      ∙ all
+
+  hits_are : hits_of m D ≡ before ++ map (hit_at m) rest
+  hits_are = ap (map (hit_at m)) (sym (close_pass m D m.count)) ∙ sym all
+
+  -- 512 were entered, and one is left
+  pub too_many_found : (k : ℕ) (ks : List ℕ) → rest ≡ k ∷ ks → length before ≡ 512 → booked (hits_of m D) ≡ Err BookFull
+  too_many_found k ks first full =
+      let n = ap length (hits_are ∙ ap (λ js. before ++ map (hit_at m) js) first) ∙ length-append before (hit_at m k ∷ map (hit_at m) ks) in
+      cond-true (ltb 512 (length (hits_of m D))) (Err BookFull) (Ok (hits_of m D)) (lt-ltb 512 (length (hits_of m D)) (omega (arith, n)))
+
+  pub all_found : rest ≡ [] → length before ≤ 512 → Ok before ≡ booked (hits_of m D)
+  all_found none few =
+      let w : before ≡ hits_of m D = sym (append-nil before) ∙ ap (λ js. before ++ map (hit_at m) js) (sym none) ∙ sym hits_are in
+      ap Ok w ∙ sym (cond-false (ltb 512 (length (hits_of m D))) (Err BookFull) (Ok (hits_of m D)) (le-ltb 512 (length (hits_of m D)) (omega (arith, ap length w))))
 
 -- the points of a curve m with the shift t are those of the order, where the curve, the shift and the threshold are
 pub same_points : (o : Order) (m : Meaning) (t D : ℕ) → m ≡ unshifted o.modulus o.count o.half_width o.shape → t ≡ shift_of o → D ≡ threshold_of o →

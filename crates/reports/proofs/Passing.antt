@@ -1,29 +1,26 @@
--- The rising list of the indices that pass a test.
-use Rattle.std.proofs.Common.{◌≡◌, ℕ, zero, suc, ◌<◌, ◌≤◌, Bool, true, false, cond, [], ◌∷◌, ◌++◌, length, ap, ◌∙◌, ⊎_elim, arith}
-use Rattle.std.proofs.lemmas.List.{append-nil, length-append}
-use Rattle.std.proofs.lemmas.Bool.{cases_lt}
-use Rattle.reports.specs.Close.{passing}
+-- The close indices below n, as they pass a test one after the other.
+use Rattle.std.proofs.Common.{◌≡◌, ℕ, zero, suc, ◌+◌, ◌-◌, Bool, true, false, cond, List, [], ◌∷◌, ◌++◌, refl, sym, ap, ◌∙◌, arith}
+use Rattle.curves.specs.Closes.{close_among, close_between}
+use Rattle.curves.specs.Meaning.{Meaning}
+use Rattle.reports.specs.Close.{close, passing}
 
-pub one_more_passes : (p : ℕ → Bool) (n : ℕ) → p n ≡ true → passing p (suc n) ≡ passing p n ++ n ∷ []
-one_more_passes p n h = ap (λ (b : Bool). passing p n ++ cond b (n ∷ []) []) h
+joined : (b : Bool) (k : ℕ) (xs ys : List ℕ) → cond b (k ∷ (xs ++ ys)) (xs ++ ys) ≡ cond b (k ∷ xs) xs ++ ys
+joined true k xs ys = refl
+joined false k xs ys = refl
 
-one_more_fails : (p : ℕ → Bool) (n : ℕ) → p n ≡ false → passing p (suc n) ≡ passing p n
-one_more_fails p n h = ap (λ (b : Bool). passing p n ++ cond b (n ∷ []) []) h ∙ append-nil (passing p n)
+-- one index more comes behind the others
+one_more : (m : Meaning) (D n s k : ℕ) → k ≡ s + n → close_among m D s (suc n) ≡ close_among m D s n ++ cond (close m D k) (k ∷ []) []
+one_more m D zero s k is =
+    let e : k ≡ s = omega (arith, is) in
+    ap (λ i. cond (close m D i) (i ∷ []) []) (sym e)
+one_more m D (suc n) s k is =
+    ap (λ xs. cond (close m D s) (s ∷ xs) xs) (one_more m D n (s + 1) k (omega (arith, is)))
+    ∙ joined (close m D s) s (close_among m D (s + 1) n) (cond (close m D k) (k ∷ []) [])
 
--- where nothing passes from i up to n
-pub none_between : (p : ℕ → Bool) (i n : ℕ) → i ≤ n → ((k : ℕ) → i ≤ k → k < n → p k ≡ false) → passing p n ≡ passing p i
-none_between p i zero h f = let e : zero ≡ i = omega arith in ap (passing p) e
-none_between p i (suc n) h f =
-    ⊎_elim
-    (λ (l : n < i). let e : suc n ≡ i = omega arith in ap (passing p) e)
-    (λ (l : i ≤ n). one_more_fails p n (f n l (omega arith)) ∙ none_between p i n l (λ k a b. f k a (omega arith)))
-    (cases_lt n i)
+among_pass : (m : Meaning) (D n : ℕ) → close_among m D 0 n ≡ passing (close m D) n
+among_pass m D zero = refl
+among_pass m D (suc n) =
+    one_more m D n 0 n (omega arith) ∙ ap (λ xs. xs ++ cond (close m D n) (n ∷ []) []) (among_pass m D n)
 
--- a longer range has as many at least
-pub passing_grows : (p : ℕ → Bool) (i n : ℕ) → i ≤ n → length (passing p i) ≤ length (passing p n)
-passing_grows p i zero h = let e : i ≡ zero = omega arith in omega (arith, ap (λ k. length (passing p k)) e)
-passing_grows p i (suc n) h =
-    ⊎_elim
-    (λ (l : n < i). let e : i ≡ suc n = omega arith in omega (arith, ap (λ k. length (passing p k)) e))
-    (λ (l : i ≤ n). omega (arith, passing_grows p i n l, length-append (passing p n) (cond (p n) (n ∷ []) [])))
-    (cases_lt n i)
+pub close_pass : (m : Meaning) (D n : ℕ) → close_between m D 0 n ≡ passing (close m D) n
+close_pass m D n = let z : n - 0 ≡ n = omega arith in ap (close_among m D 0) z ∙ among_pass m D n

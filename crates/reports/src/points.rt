@@ -14,21 +14,18 @@ use curves::curve::Curve;
 use curves::listed::Listed;
 use curves::shifted::Shifted;
 use curves::straight::Straight;
-use scan::next_close;
+use scan::close_indices::CloseIndices;
 
-/// Looks again and again behind the close index that was found last.
+/// Enters the close points of a curve, one after the other.
 fn gather<C: Curve>(curve: &C, threshold: u64) -> Result<Book, LineRefusal>
     requires threshold_fits { threshold ≤ 2 ^ 40 }
     ensures holds_the_close_points { held_by result ≡ booked (hits_of (C.meaning curve.now) threshold) }
     ensures has_the_threshold { IfOk result (λ b. threshold_in b ≡ threshold) }
 {
-    let count = curve.count();
     let mut book = Book::new(threshold);
-    let mut from = 0;
-    while let Some(index) = next_close::<u64, C>(curve, threshold, from, count) {
+    for index in CloseIndices::<u64, C>::new(curve, threshold, 0, curve.count()) {
         let value = curve.value(index).unwrap();
         book.push(Hit { index, value })?;
-        from = index + 1;
     }
     Ok(book)
 }
