@@ -7,8 +7,7 @@ use search::evidence::Evidence;
 use search::refusal::SearchRefusal;
 use search::search;
 use search::vouching::vouches;
-use std::fmt;
-use std::io;
+use std::{fmt, io};
 
 /// A search to be shown.
 #[derive(Clone, Copy, PartialEq, Eq, Debug)]
@@ -42,7 +41,10 @@ impl fmt::Display for Case {
             threshold,
             points,
         } = *self;
-        write!(f, "M {modulus} a {slope} b {offset} D {threshold} n {points}")
+        write!(
+            f,
+            "M {modulus} a {slope} b {offset} D {threshold} n {points}"
+        )
     }
 }
 
@@ -97,8 +99,14 @@ impl Case {
 
     /// The evidence with its verdict for the first points of the case.
     fn judged(self, points: u64, evidence: Evidence) -> Judged {
-        let vouches = Modulus::new(self.modulus)
-            .is_ok_and(|m| vouches(m, self.slope, self.offset, self.threshold, points, evidence));
+        let vouches = Modulus::new(self.modulus).is_ok_and(|m| vouches(
+            m,
+            self.slope,
+            self.offset,
+            self.threshold,
+            points,
+            evidence,
+        ));
         Judged { evidence, vouches }
     }
 

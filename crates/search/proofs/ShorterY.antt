@@ -3,7 +3,7 @@ use Rattle.std.proofs.Common.{◌≡◌, ℕ, zero, suc, ◌+◌, ◌-◌, ◌*�
 use native.Mathlib.Nat.{lt-div-mul-add}
 use Rattle.std.proofs.lemmas.Bool.{cases_lt}
 use Rattle.std.proofs.Math.Nat.{le-mul_of_pos_right}
-use Rattle.search.proofs.Batching.{few_added, less_one}
+use Rattle.search.proofs.Batching.{less_one}
 use Rattle.search.proofs.Distances.{distance_is, distance_at}
 use Rattle.search.proofs.Sound.{gap_is, nearest}
 use Rattle.search.proofs.ShorterX.{inside_is}
@@ -173,9 +173,6 @@ hit_later M a b D n s q t g h w l c m o e =
     (omega (arith, i, m.within, gap_is k (raised (placed s) (suc g)) (s.r + g * s.v)))
 
 -- ---- the same in the numbers that the code has: what is left of y, and the distance w after the moves
-
-pub small_r : (n : ℕ) (s : Spot) (q : ℕ) → ShortensY n s q → q * s.v < n + s.v
-small_r n s q t = omega (arith, few_added (n - (s.u + s.v)) s.v q q t.few (omega arith))
 
 pub stays_r : (M a b D n : ℕ) (s : Spot) (q y : ℕ) → Walks M a b D n s → s.u + s.v < n → ShortensY n s q → y ≡ s.y - q * s.x → s.r < s.u →
     Goes M a b D n s (record { u = s.u + q * s.v; v = s.v; x = s.x; y = y; r = s.r; d = s.d })
