@@ -6,14 +6,14 @@ use sheets::judge;
 use sheets::refusal::SheetRefusal;
 
 /// A curve of either kind.
-#[derive(Clone, Copy)]
+#[derive(Clone, Copy, PartialEq, Eq, Debug)]
 enum Shape {
     Straight(Straight),
     Bowed(Bowed),
 }
 
 /// A curve, and the block of it that a sheet is asked for.
-#[derive(Clone, Copy)]
+#[derive(Clone, Copy, PartialEq, Eq, Debug)]
 pub(crate) struct Task {
     shape: Shape,
     assignment: Assignment,

@@ -7,5 +7,5 @@ mod verdicts;
 use sheet_table::show_sheets;
 
 fn main(rt: HostRuntime) -> anyhow::Result<()> {
-    show_sheets(&rt)
+    show_sheets(&rt, rt.alloc())
 }

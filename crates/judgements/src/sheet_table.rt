@@ -5,7 +5,7 @@
 use crate::assignments::{Task, task_of};
 use crate::verdicts::Verdict;
 use std::alloc::{AllocError, Global};
-use std::io::{BufRead, BufReader, Read};
+use std::io::{BufRead, Read};
 use std::str::from_utf8;
 
 /// How many bytes of the table are read at most, so that a line takes no more memory than that.
@@ -20,6 +20,21 @@ struct Row<'a> {
     sheet: Vec<u8>,
 }
 
+/// Why a line gives no row.
+#[derive(Clone, Copy, PartialEq, Eq, Debug)]
+enum NoRow {
+    /// A field is missing, the letter is unknown, or the records are not in hex.
+    Malformed,
+    /// There is no memory for the sheet.
+    Memory(AllocError),
+}
+
+impl From<AllocError> for NoRow {
+    fn from(error: AllocError) -> NoRow {
+        NoRow::Memory(error)
+    }
+}
+
 /// The value of a hex digit.
 fn digit(byte: u8) -> Option<u8> {
     match byte {
@@ -29,55 +44,51 @@ fn digit(byte: u8) -> Option<u8> {
     }
 }
 
-/// Appends the bytes that a text writes in hex, and answers whether it is pairs of digits throughout.
-fn decode(text: &str, bytes: &mut Vec<u8>) -> Result<bool, AllocError> {
+/// The byte that two hex digits write.
+fn byte_of(pair: &[u8]) -> Option<u8> {
+    let [high, low] = pair else {
+        return None;
+    };
+    Some(digit(*high)? << 4 | digit(*low)?)
+}
+
+/// Appends the bytes that a text writes in hex.
+fn decode(text: &str, bytes: &mut Vec<u8>) -> Result<(), NoRow> {
     for pair in text.as_bytes().chunks(2) {
-        let [high, low] = pair else {
-            return Ok(false);
-        };
-        let (Some(high), Some(low)) = (digit(*high), digit(*low)) else {
-            return Ok(false);
-        };
-        bytes.push(high << 4 | low)?;
+        let byte = byte_of(pair).ok_or(NoRow::Malformed)?;
+        bytes.push(byte).map_err(AllocError::from)?;
     }
-    Ok(true)
+    Ok(())
 }
 
 impl Row<'_> {
-    /// What a line says; none where a field is missing, the letter is unknown or the records are not in hex.
-    fn read(heap: Global, line: &str) -> Result<Option<Row<'_>>, AllocError> {
-        let mut fields = line.split(' ');
-        let (Some(name), Some(letter), Some(expected)) = (
-            fields.next(),
-            fields.next(),
-            fields.next(),
-        ) else {
-            return Ok(None);
-        };
-        let Some(task) = task_of(letter) else {
-            return Ok(None);
-        };
+    /// What a line says.
+    fn read(heap: Global, line: &[u8]) -> Result<Row<'_>, NoRow> {
+        let text = from_utf8(line).map_err(|_| NoRow::Malformed)?;
+        let mut fields = text.split(' ');
+        let name = fields.next().ok_or(NoRow::Malformed)?;
+        let letter = fields.next().ok_or(NoRow::Malformed)?;
+        let expected = fields.next().ok_or(NoRow::Malformed)?;
+        let task = task_of(letter).ok_or(NoRow::Malformed)?;
         let mut sheet = Vec::new(heap);
         for record in fields {
-            if !decode(record, &mut sheet)? {
-                return Ok(None);
-            }
+            decode(record, &mut sheet)?;
         }
-        Ok(Some(Row {
+        Ok(Row {
             name,
             task,
             expected,
             sheet,
-        }))
+        })
     }
 }
 
 /// Judges the sheet of a row, and prints the verdict and whether it is the expected one.
-fn show_row(rt: &HostRuntime, row: &Row<'_>) -> anyhow::Result<()> {
+fn show_row(rt: &impl Print, heap: Global, row: &Row<'_>) -> anyhow::Result<()> {
     let name = row.name;
     let expected = row.expected;
-    let verdict = Verdict::of(rt.alloc(), row.task, row.sheet.as_slice())?;
-    if verdict.reads(rt.alloc(), expected)? {
+    let verdict = Verdict::of(heap, row.task, row.sheet.as_slice())?;
+    if verdict.reads(heap, expected)? {
         println!(rt; "sheet {name}: {verdict} (as expected)")?;
     } else {
         println!(rt; "sheet {name}: {verdict} (WRONG: expected {expected})")?;
@@ -86,30 +97,29 @@ fn show_row(rt: &HostRuntime, row: &Row<'_>) -> anyhow::Result<()> {
 }
 
 /// Prints what the line with that number is about, unless it is to be skipped.
-fn show_line(rt: &HostRuntime, number: u32, line: &[u8]) -> anyhow::Result<()> {
+fn show_line(rt: &impl Print, heap: Global, number: u32, line: &[u8]) -> anyhow::Result<()> {
     let line = line.strip_suffix(b"\n").unwrap_or(line);
     if line.is_empty() || line.starts_with(b"#") {
         return Ok(());
     }
-    if let Ok(text) = from_utf8(line) {
-        if let Some(row) = Row::read(rt.alloc(), text)? {
-            return show_row(rt, &row);
-        }
+    match Row::read(heap, line) {
+        Ok(row) => show_row(rt, heap, &row)?,
+        Err(NoRow::Malformed) => println!(rt; "line {number} is no sheet")?,
+        Err(NoRow::Memory(error)) => return Err(error.into()),
     }
-    println!(rt; "line {number} is no sheet")?;
     Ok(())
 }
 
 /// Judges the sheets of the table on standard input, and prints a line for each.
-pub(crate) fn show_sheets(rt: &HostRuntime) -> anyhow::Result<()> {
-    let mut table = BufReader::new(rt.alloc(), rt.stdin())?.take(MOST_BYTES);
-    let mut line = Vec::new(rt.alloc());
+pub(crate) fn show_sheets(rt: &(impl Input + Print), heap: Global) -> anyhow::Result<()> {
+    let mut table = rt.reader().take(MOST_BYTES);
+    let mut line = Vec::new(heap);
     for number in 1..10_000u32 {
         line.clear();
         if table.read_until(b'\n', &mut line)? == 0 {
             break;
         }
-        show_line(rt, number, line.as_slice())?;
+        show_line(rt, heap, number, line.as_slice())?;
     }
     Ok(())
 }
@@ -119,7 +129,6 @@ mod tests {
     use super::decode;
     use crate::assignments::{Task, block_of, straight, task_of};
     use std::alloc::{AllocError, Global};
-    use std::process::Abort;
     use std::test::Fail;
 
     const FIGURE_HEAD: &str = "1c00010009000000000000002d000000000000000500000000000000";
@@ -129,26 +138,17 @@ mod tests {
 
     const FIGURE_REST: &str = "100004000400000020000000000000000800050003000000";
 
-    fn known(task: Option<Task>) -> Result<Task, Fail> {
-        match task {
-            Some(task) => Ok(task),
-            None => Err(Fail::new("no such task")),
-        }
-    }
-
     // How many hits a sheet has, or the number of its fault with the byte.
     fn judged(task: Task, sheet: &[u8], hits: &mut [u32; 512]) -> Result<u32, (u32, Option<u32>)> {
-        match task.judge(sheet, hits) {
-            Ok(count) => Ok(count),
-            Err(refusal) => Err((refusal.number(), refusal.byte())),
-        }
+        task.judge(sheet, hits)
+            .map_err(|refusal| (refusal.number(), refusal.byte()))
     }
 
     // The sheet of the figures, with its record for index 3.
-    fn figure(rt: &impl Abort, heap: Global, third: &str) -> Result<Vec<u8>, Fail> {
+    fn figure(heap: Global, third: &str) -> Result<Vec<u8>, Fail> {
         let mut sheet = Vec::new(heap);
         for part in [FIGURE_HEAD, FIGURE_CLEAN, third, FIGURE_REST] {
-            assert!(rt; decode(part, &mut sheet)?);
+            decode(part, &mut sheet).map_err(|_| Fail::new("no hex"))?;
         }
         Ok(sheet)
     }
@@ -170,15 +170,15 @@ mod tests {
 
     #[test]
     fn figure_sheets(rt: HostRuntime) -> Result<(), Fail> {
-        let task = known(task_of("S"))?;
+        let task = task_of("S").ok_or("no such task")?;
         let mut hits = [7; 512];
-        let faulty = figure(&rt, rt.alloc(), "10000400030000000400000000000000")?;
+        let faulty = figure(rt.alloc(), "10000400030000000400000000000000")?;
         assert_eq!(rt;
             judged(task, faulty.as_slice(), &mut hits),
             Err((27, Some(68)))
         );
         assert!(rt; hits == [7; 512]);
-        let good = figure(&rt, rt.alloc(), "10000300030000000400000000000000")?;
+        let good = figure(rt.alloc(), "10000300030000000400000000000000")?;
         assert_eq!(rt; judged(task, good.as_slice(), &mut hits), Ok(1));
         assert_eq!(rt; hits[0], 3);
         assert!(rt; hits[1..] == [7; 511]);
@@ -187,7 +187,7 @@ mod tests {
 
     #[test]
     fn more_hits_than_places(rt: HostRuntime) -> Result<(), Fail> {
-        let task = known(straight(600, 0, 0, block_of(0, 600, 1)))?;
+        let task = straight(600, 0, 0, block_of(0, 600, 1)).ok_or("no such task")?;
         let mut hits = [7; 512];
         let miscounted = hits_600(rt.alloc(), 599)?;
         assert_eq!(rt;
@@ -205,7 +205,7 @@ mod tests {
 
     #[test]
     fn longest_sheets(rt: HostRuntime) -> Result<(), Fail> {
-        let task = known(task_of("S"))?;
+        let task = task_of("S").ok_or("no such task")?;
         let mut hits = [7; 512];
         let mut sheet = vec![in rt.alloc(); 0u8; 1 << 22]?;
         assert_eq!(rt;

@@ -13,6 +13,10 @@ pub(crate) enum Verdict {
     Refused(SheetRefusal),
 }
 
+/// A verdict as the table writes it: `passes:3`, `27@68` or `19`.
+#[derive(Clone, Copy)]
+struct Short<'a>(&'a Verdict);
+
 /// The indices joined by commas, or `-` where there are none.
 fn joined(heap: Global, hits: &[u32]) -> Result<String, AllocError> {
     if hits.is_empty() {
@@ -23,8 +27,7 @@ fn joined(heap: Global, hits: &[u32]) -> Result<String, AllocError> {
         if !text.is_empty() {
             text.push(',')?;
         }
-        let index = hit.to_string(heap)?;
-        text.push_str(index.as_str())?;
+        write!(text, "{hit}")?;
     }
     Ok(text)
 }
@@ -42,38 +45,40 @@ impl Verdict {
         }
     }
 
-    /// The verdict as the table writes it: `passes:3`, `27@68` or `19`.
-    fn in_short(&self, heap: Global) -> Result<String, AllocError> {
+    /// Whether the table writes the verdict so.
+    pub(crate) fn reads(&self, heap: Global, text: &str) -> Result<bool, AllocError> {
+        let short = Short(self).to_string(heap)?;
+        Ok(short.as_str() == text)
+    }
+
+    /// Writes the verdict, with these words before the hits and before a byte.
+    fn write<W: fmt::Write>(
+        &self,
+        f: &mut fmt::Formatter<W>,
+        passes: &str,
+        at: &str,
+    ) -> fmt::Result {
         match self {
-            Verdict::Passes(hits) => format!(in heap; "passes:{hits}"),
+            Verdict::Passes(hits) => write!(f, "{passes}{hits}"),
             Verdict::Refused(refusal) => {
                 let number = refusal.number();
                 match refusal.byte() {
-                    Some(byte) => format!(in heap; "{number}@{byte}"),
-                    None => format!(in heap; "{number}"),
+                    Some(byte) => write!(f, "{number}{at}{byte}"),
+                    None => write!(f, "{number}"),
                 }
             }
         }
-    }
-
-    /// Whether the table writes the verdict so.
-    pub(crate) fn reads(&self, heap: Global, text: &str) -> Result<bool, AllocError> {
-        let short = self.in_short(heap)?;
-        Ok(short.as_str() == text)
     }
 }
 
 impl fmt::Display for Verdict {
     fn fmt<W: fmt::Write>(&self, f: &mut fmt::Formatter<W>) -> fmt::Result {
-        match self {
-            Verdict::Passes(hits) => write!(f, "passes, hits {hits}"),
-            Verdict::Refused(refusal) => {
-                let number = refusal.number();
-                match refusal.byte() {
-                    Some(byte) => write!(f, "{number} at byte {byte}"),
-                    None => write!(f, "{number}"),
-                }
-            }
-        }
+        self.write(f, "passes, hits ", " at byte ")
+    }
+}
+
+impl fmt::Display for Short<'_> {
+    fn fmt<W: fmt::Write>(&self, f: &mut fmt::Formatter<W>) -> fmt::Result {
+        self.0.write(f, "passes:", "@")
     }
 }
