@@ -129,7 +129,6 @@ mod tests {
     use super::decode;
     use crate::assignments::{Task, block_of, straight, task_of};
     use std::alloc::{AllocError, Global};
-    use std::process::Abort;
     use std::test::Fail;
 
     const FIGURE_HEAD: &str = "1c00010009000000000000002d000000000000000500000000000000";
