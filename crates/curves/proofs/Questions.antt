@@ -1,21 +1,9 @@
 -- What an answer to a question tells of what was asked.
-use Rattle.std.proofs.Common.{◌≡◌, ℕ, ◌+◌, ◌<◌, ◌≤◌, ◌&&◌, ltb, leb, Some, sym, refl, subst, arith}
-use Rattle.std.proofs.lemmas.Bool.{and_parts, ltb-true, leb-true}
+use Rattle.std.proofs.Common.{◌≡◌, ℕ, ◌+◌, ◌≤◌, ◌&&◌, leb, Some, sym, refl, subst}
+use Rattle.std.proofs.lemmas.Bool.{and_parts, leb-true}
 use Rattle.std.proofs.lemmas.Option.{cond_some}
-use Rattle.curves.specs.Meaning.{Meaning, Facts, LineFacts, value_of, line_of}
+use Rattle.curves.specs.Meaning.{Meaning, Facts, LineFacts, line_of}
 use Rattle.curves.specs.declared.line.Line.{Line}
-
--- v was answered to the question for the value at k
-pub record ValueAnswered (m : Meaning) (k v : ℕ) : Type 0 where
-  pub within : k < m.count
-  pub is : v ≡ m.value k
-  pub below : v < m.modulus
-
-pub value_answered : (m : Meaning) (k v : ℕ) → Facts m → Some v ≡ value_of m k → ValueAnswered m k v
-value_answered m k v f e =
-    let w = cond_some (ltb k m.count) (m.value k) v (sym e) in
-    let h : k < m.count = ltb-true k m.count w.0 in
-    record { within = h; is = sym w.1; below = omega (arith, w.1, f.value_below k h) }
 
 -- l was answered to the question for the line from s for n points
 pub record LineAnswered (m : Meaning) (s n : ℕ) (l : Line) : Type 0 where

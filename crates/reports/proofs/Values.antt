@@ -70,21 +70,6 @@ one_number_on {left} sf v values' after e k =
 not_as_many : (n : ℕ) (ns : List ℕ) → (length ns ≡ n → ⊥) → None ≡ exactly n (Some ns)
 not_as_many n ns h = sym (cond-false (eqb (length ns) n) (Some ns) None (ne_eqb _ _ h))
 
-no_number : (o : Option ℕ) (n : ℕ) (p : List ℕ) (fs : List (List ℕ)) →
-    ◌≡◌ {A = Option (ℕ × List (List ℕ))} None (option_map (λ m. (m, fs)) o) →
-    None ≡ exactly n (before p (with_number o (numbers_of fs)))
-no_number None n p fs e = refl
-no_number (Some m) n p fs e = cc
-
-none_there : (n : ℕ) (p : List ℕ) (left : List (List ℕ)) → None ≡ number_first left → length p < n → None ≡ exactly n (before p (numbers_of left))
-none_there n p [] e h = not_as_many n (p ++ []) (λ q. omega (arith, length-append p [], h))
-none_there n p (f ∷ fs) e h = no_number (number_of f) n p fs e
-
-pub number_missing : {s : List (List ℕ)} (n i : ℕ) {values : List ℕ} {left : List (List ℕ)} (sf : SoFar s i values left) → None ≡ number_first left → i < n →
-    None ≡ option_map (padded 32) (exactly n (numbers_of s))
-number_missing n i {left} sf e h =
-    ap (option_map (padded 32)) (none_there n sf.ns left e (omega (arith, sf.many)) ∙ ap (exactly n) (sym sf.all))
-
 one_too_many : (n : ℕ) (p : List ℕ) (o : Option ℕ) (ns : Option (List ℕ)) → length p ≡ n → None ≡ exactly n (before p (with_number o ns))
 one_too_many n p None ns h = refl
 one_too_many n p (Some v) None h = refl

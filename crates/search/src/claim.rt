@@ -1,11 +1,13 @@
 // The claim that five numbers vouch for the points of a stretch, and its test.
 ghost use Rattle.std.specs.Prelude.{◌≡◌, T, ◌↔◌, MatchOption};
-ghost use Rattle.search.specs.Configurations.{gap};
 ghost use Rattle.search.specs.Laws.{NumbersVouchExactlyWhenNoPointIsClose, VouchingNumbersGiveTheLeastDistance};
-ghost use Rattle.search.specs.Vouching.{Vouches, Within, Fills, Clears, config_of, vouching};
+ghost use Rattle.search.specs.Vouching.{Vouches, Within, vouching};
 
+use crate::claim::limited::Limited;
 use crate::evidence::Evidence;
 use grid::modulus::Modulus;
+
+mod limited;
 
 /// The claim that no (offset − k·slope) mod modulus for k below `points` is less than the threshold, with five numbers for it.
 #[derive(Clone, Copy)]
@@ -18,55 +20,6 @@ pub(crate) struct Claim {
     pub numbers: Evidence,
 }
 
-/// A claim whose numbers keep their limits.
-#[derive(Clone, Copy)]
-struct Limited {
-    claim: Claim,
-    ghost within: { Within claim.modulus.value claim.points claim.numbers },
-}
-
-impl Limited {
-    /// Whether the gaps u times x and v times y fill the circle, as steps of the slope.
-    fn fills(self) -> bool
-        ensures true_exactly_when_they_fill_the_circle { T result ↔ Fills self.claim.modulus.value self.claim.slope self.claim.numbers }
-    {
-        let Claim { modulus, slope, .. } = self.claim;
-        let Evidence { u, v, x, y, .. } = self.claim.numbers;
-        modulus.residue(x) == modulus.residue_product(v, slope)
-            && modulus.residue(y) == modulus.residue_difference(0, u, slope)
-            && u as u128 * x as u128 + v as u128 * y as u128 == modulus.get() as u128
-    }
-
-    /// The gap after point r among the points.
-    fn gap(self) -> u64
-        ensures the_gap { result ≡ gap self.claim.points (config_of self.claim.numbers) self.claim.numbers.r }
-    {
-        let Evidence { u, v, x, y, r } = self.claim.numbers;
-        if r < self.claim.points - v {
-            x
-        } else if u <= r {
-            y
-        } else {
-            x + y
-        }
-    }
-
-    /// Whether the offset lies the threshold or more above point r, and in the gap after it.
-    fn clears(self) -> bool
-        ensures true_exactly_when_the_offset_is_clear { T result ↔ Clears self.claim.modulus.value self.claim.slope self.claim.offset self.claim.threshold self.claim.points self.claim.numbers }
-    {
-        let Claim {
-            modulus,
-            slope,
-            offset,
-            threshold,
-            ..
-        } = self.claim;
-        let w = modulus.residue_difference(offset, self.claim.numbers.r, slope);
-        (threshold..self.gap()).contains(&w)
-    }
-}
-
 impl Claim {
     /// The claim with its limits, where the numbers keep them: u and v from 1 to n, n at most their sum, x and y at most the modulus, r
     /// below n.
@@ -75,6 +28,7 @@ impl Claim {
     {
         let most = self.modulus.get();
         let Evidence { u, v, x, y, r } = self.numbers;
+        // An `if` and not `then`: in a closure behind the test the proof lacks what the test tells.
         if (1..=self.points).contains(&u)
             && (1..=self.points).contains(&v)
             && self.points - u <= v
@@ -82,7 +36,6 @@ impl Claim {
             && y <= most
             && r < self.points
         {
-            // an `if` and not `then`: what the test tells is a fact here, and not within a closure
             Some(Limited { claim: self })
         } else {
             None

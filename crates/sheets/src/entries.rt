@@ -8,7 +8,7 @@ ghost use Rattle.sheets.specs.Inner.{clean_fault, point_fault};
 ghost use Rattle.sheets.specs.Tests.{first_fault, going, is_a_wrong_end, is_elsewhere, is_not_the_head, points_of};
 
 use crate::fault::Fault;
-use crate::judging::Judge;
+use crate::judging::judge::Judge;
 use crate::progress::Progress;
 use curves::curve::Curve;
 use curves::line::Line;

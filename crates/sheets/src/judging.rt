@@ -12,6 +12,7 @@ use crate::assignment::Assignment;
 use crate::blocks::{start_of, stop_of};
 use crate::entries::points_of;
 use crate::fault::Fault;
+use crate::judging::judge::Judge;
 use crate::progress::Progress;
 use crate::refusal::SheetRefusal;
 use crate::turn::Turn;
@@ -19,16 +20,7 @@ use curves::curve::Curve;
 use records::reading::record_at;
 use records::record::Record;
 
-/// A sheet of at most 2^22 bytes, and the block of a curve that it is judged for; `stop` is the index behind the block's last.
-#[derive(Drop)]
-pub(crate) struct Judge<'a, C: Curve> {
-    pub(crate) curve: &'a C,
-    pub(crate) assignment: Assignment,
-    pub(crate) stop: u32,
-    sheet: &'a [u8],
-    ghost stop_is_the_blocks: { stop ≡ stop_of (C.meaning curve.now) assignment },
-    ghost not_too_long: { length sheet.now ≤ 2 ^ 22 },
-}
+pub(crate) mod judge;
 
 /// The refusal for a fault at a byte.
 fn faulty(fault: Fault, at: usize) -> SheetRefusal

@@ -26,7 +26,6 @@ impl Modulus {
         ensures is_the_residue { result ≡ residue self.value (pos (a * b)) }
         ensures below_the_modulus { result < self.value }
     {
-        // most products have 64 bits, which are divided faster than 128
         match a.checked_mul(b) {
             Some(product) => self.residue(product),
             None => (a as u128 * b as u128 % self.value as u128) as u64,
