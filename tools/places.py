@@ -100,11 +100,29 @@ def without_comparison():
 
 
 def same_names():
-    """Functions of one name in several files, outside traits' impls."""
+    """Free functions and methods of one name in several files, but for makers, readers of numbers and what a trait asks for."""
+    of_traits = set()
+    for _, text in sources():
+        for block in re.findall(r"^(?:pub )?trait \w+.*?^\}|^impl(?:<[^>]*>)? [\w<>:, ]+ for .*?^\}", text, re.M | re.S):
+            of_traits.update(re.findall(r"\bfn (\w+)", block))
     where = collections.defaultdict(list)
     for place, function, _, _ in functions():
-        where[function].append(place)
+        if function not in of_traits | {"new", "number", "byte", "main", "run"}:
+            where[function].append(place)
     return [f"{name}: {', '.join(places)}" for name, places in sorted(where.items()) if len(places) >= 2]
+
+
+def two_cases():
+    """Own enums of just two cases of which one at least carries data: the shape of Option and Result."""
+    found = []
+    for name, text in sources():
+        text = re.sub(r"//.*", "", text.split("#[cfg(test)]")[0])
+        for match in re.finditer(r"^(?:pub(?:\([a-z]+\))? )?enum (\w+)[^{]*\{(.*?)^\}", text, re.M | re.S):
+            cases = re.findall(r"^    (\w+)\s*([({]?)", match.group(2), re.M)
+            if len(cases) == 2 and any(data for _, data in cases):
+                number = text.count("\n", 0, match.start()) + 1
+                found.append(f"{name}:{number}: {match.group(1)} of {cases[0][0]} and {cases[1][0]}")
+    return found
 
 
 def answers():
@@ -118,20 +136,21 @@ def answers():
 
 
 POINTS = [
-    ("1a own enums", lambda: lines_of(r"^\s*(pub(\([a-z]+\))? )?enum \w+", True)),
+    ("1a own enums of two cases, one with data", two_cases),
     ("1b a match that passes None or Err on, or makes a flag an Option", lambda: spans_of(
         r"None => None\b|None => return None\b|Err\(\w+\) => Err\([^)\n]*|(?:else|\} else) \{\s*None\s*\}|else \{\s*return (?:None|Ok\(None\));\s*\}", True)),
     ("1c unreachable arms", lambda: lines_of(r"unreachable\(\)|unreachable!", True)),
     ("1d a bool that says whether it went well", lambda: spans_of(r"fn \w+(?:<[^(]*>)?\(\s*&mut self[^{]*?-> bool", True)),
-    ("1e numbers for kinds or refusals", lambda: lines_of(r"fn number\(|\bkind: u\d+|\bcode\b", True)),
+    ("1e numbers for kinds or refusals", lambda: lines_of(r"\b(kind|code|state|mode): (u|i)\d+|\blet code\b|-> u8$", True)),
     ("2a functions of one name", same_names),
     ("2b functions named by a size or a part of a pair", lambda: lines_of(r"fn (two|four|eight)_\w+|fn \w+_(x|y)\b|fn next_(number|signed)|fn read_(kind|mode)", True)),
+    ("2c conversions between refusals, an impl for each", lambda: lines_of(r"^impl From<\w+> for \w+", True)),
     ("3a while and loop", lambda: lines_of(r"^\s*(while|loop)\b", True)),
-    ("3b for over indices", lambda: lines_of(r"\bfor \w+ in .*\.\.|\.enumerate\(\)", True)),
+    ("3b for over indices", lambda: lines_of(r"\bfor \w+ in [\w(]+\.\.|\.enumerate\(\)", True)),
     ("3c counting by hand", lambda: lines_of(r"\b\w+ [+-]= ", True)),
     ("4a plain types without comparison", without_comparison),
     ("4b comparison by matches! or by cases", lambda: lines_of(r"matches!\(", True)),
-    ("4c conversions by a function", lambda: lines_of(r"fn (read|from_\w+|to_\w+|as_\w+|read_\w+|get)\b", True)),
+    ("4c conversions by a function", lambda: lines_of(r"fn (read|from_\w+|to_\w+|as_\w+|read_\w+|get|number)\b", True)),
     ("4d taken apart to be printed", lambda: spans_of(r"let number = refusal\.number\(\)|let code = refusal\.number\(\)|let Evidence \{|let Case \{", True)),
     ("5a facts in three or more contracts of a crate", repeated_facts),
     ("5b parameters that travel together", travelling),

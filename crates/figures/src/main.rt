@@ -12,7 +12,7 @@ fn figures_hold()
     ensures every_figure_of_sheets_and_terms_holds { SheetAndTermsFigures }
 {}
 
-fn run(rt: &HostRuntime) -> anyhow::Result<()> {
+fn run(rt: &impl Print) -> anyhow::Result<()> {
     figures_hold();
     show_searches(rt)?;
     show_all_gaps(rt)?;

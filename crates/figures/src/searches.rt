@@ -111,7 +111,7 @@ impl Case {
     }
 
     /// Prints the search in one arithmetic: what was asked, the answer, the evidence, and whether that vouches for the points before.
-    fn show<A: Arithmetic>(self, rt: &HostRuntime, name: &str) -> io::Result<()> {
+    fn show<A: Arithmetic>(self, rt: &impl Print, name: &str) -> io::Result<()> {
         print!(rt; "{name} {self}: ")?;
         match self.answer::<A>() {
             Err(refusal) => {
@@ -144,7 +144,7 @@ impl Case {
 }
 
 /// Prints the points in their order round the circle, each with the gap to the next, from the configuration for that many points.
-fn show_gaps(rt: &HostRuntime, points: u64) -> io::Result<()> {
+fn show_gaps(rt: &impl Print, points: u64) -> io::Result<()> {
     let Ok(Answer::Clear { evidence: e }) = search::<u64>(45, 17, 0, 0, points) else {
         return println!(rt; "n {points}: no configuration");
     };
@@ -169,7 +169,7 @@ fn show_gaps(rt: &HostRuntime, points: u64) -> io::Result<()> {
 }
 
 /// Prints each search in both arithmetics.
-pub(crate) fn show_searches(rt: &HostRuntime) -> io::Result<()> {
+pub(crate) fn show_searches(rt: &impl Print) -> io::Result<()> {
     for case in CASES.map(Case::from) {
         case.show::<u64>(rt, "u64")?;
         case.show::<Double>(rt, "f64")?;
@@ -178,7 +178,7 @@ pub(crate) fn show_searches(rt: &HostRuntime) -> io::Result<()> {
 }
 
 /// Prints the gaps among two to five points.
-pub(crate) fn show_all_gaps(rt: &HostRuntime) -> io::Result<()> {
+pub(crate) fn show_all_gaps(rt: &impl Print) -> io::Result<()> {
     for points in 2..6u64 {
         show_gaps(rt, points)?;
     }

@@ -4,7 +4,7 @@ use sheets::refusal::SheetRefusal;
 use std::alloc::{AllocError, Global};
 use std::fmt;
 
-/// What the judge answers to a sheet.
+/// What the judge answers to a sheet. Not a `Result`: `Display` needs a type of the program's own, and one around a `Result` has more words.
 #[derive(Drop)]
 pub(crate) enum Verdict {
     /// It passes, with these hits: the indices joined by commas, or `-` where there are none.

@@ -8,3 +8,4 @@ pub mod Reading
 pub mod Runs
 pub mod Turning
 pub mod Turns
+pub mod Uncut

@@ -49,7 +49,9 @@ impl<C: Curve> Judge<'_, C> {
             }
     }
 
-    /// Whether the numbers vouch for the points of a line that covers their stretch.
+    /// Whether the numbers vouch for the points of a line that covers their stretch. The window's threshold is cut at the modulus, that of a
+    /// clean record is not, and both give the same answer.
+    #[tactic(auto, using(crate::proofs::Uncut::vouching_uncut))]
     fn is_vouched(&self, stretch: CleanStretch, line: Line, window: Window) -> bool
         requires the_line_there { line ≡ (C.meaning self.now.curve.now).line stretch.from stretch.points }
         requires the_window_of_the_line { window ≡ window_of (C.meaning self.now.curve.now).modulus line self.now.assignment.threshold }

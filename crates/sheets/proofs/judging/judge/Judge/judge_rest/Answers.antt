@@ -3,8 +3,8 @@ use Rattle.std.proofs.lemmas.Result.{err_from_is_err_and}
 use Rattle.sheets.specs.Inner.{Turned}
 use Rattle.sheets.specs.declared.turn.Turn.{Turn}
 use Rattle.sheets.proofs.Going.{begins, refused, over, as_named, goes_on_with_a_hit, goes_on}
-use Rattle.sheets.proofs.judging.Judge.judge_rest.Goals as goal
-use Rattle.sheets.proofs.judging.Judge.judge_rest.Goals.{in-Hit, in-On}
+use Rattle.sheets.proofs.judging.judge.Judge.judge_rest.Goals as goal
+use Rattle.sheets.proofs.judging.judge.Judge.judge_rest.Goals.{in-Hit, in-On}
 
 pub loop-end-init : goal.loop-end-init
 loop-end-init g c =

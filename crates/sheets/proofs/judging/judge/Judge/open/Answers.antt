@@ -2,7 +2,7 @@ use Rattle.std.proofs.Common.{not, sym, ap, ◌∙◌, arith}
 use Rattle.records.specs.Reading.{says}
 use Rattle.sheets.proofs.Reading.{read}
 use Rattle.sheets.proofs.Turning.{opened_by, not_opened_by}
-use Rattle.sheets.proofs.judging.Judge.open.Goals as goal
+use Rattle.sheets.proofs.judging.judge.Judge.open.Goals as goal
 
 pub returns-then-opens : goal.returns-then-opens
 returns-then-opens g c =

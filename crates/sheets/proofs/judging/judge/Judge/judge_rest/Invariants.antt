@@ -1,6 +1,6 @@
 use Rattle.std.proofs.Common.{◌-◌, length}
 use Rattle.sheets.specs.Inner.{UnderWay}
-use Rattle.sheets.proofs.judging.Judge.judge_rest.Given as goal
+use Rattle.sheets.proofs.judging.judge.Judge.judge_rest.Given as goal
 
 abbrev pub invariant-loop-end : goal.invariant-loop-end
 invariant-loop-end g l =

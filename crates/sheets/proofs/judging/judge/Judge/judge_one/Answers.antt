@@ -6,7 +6,7 @@ use Rattle.sheets.specs.Tests.{going}
 use Rattle.sheets.specs.declared.turn.Turn.{Turn}
 use Rattle.sheets.proofs.Reading.{read}
 use Rattle.sheets.proofs.Turning.{one_record, turned_by}
-use Rattle.sheets.proofs.judging.Judge.judge_one.Goals as goal
+use Rattle.sheets.proofs.judging.judge.Judge.judge_one.Goals as goal
 
 pub returns-in-Some : goal.returns-in-Some
 returns-in-Some g c =
