@@ -1,6 +1,7 @@
 -- What a step says of the curve, from the laws of its window and the search's answer.
-use Rattle.std.proofs.Common.{◌≡◌, ℕ, ◌+◌, ◌-◌, ◌<◌, ◌≤◌, Bool, true, false, cond, ◌&&◌, leb, Some, None, sym, refl, ap, ◌∙◌, subst, ⊎_elim, arith}
+use Rattle.std.proofs.Common.{◌≡◌, ℕ, ◌+◌, ◌-◌, ◌<◌, ◌≤◌, ◌&&◌, leb, Some, sym, ap, ◌∙◌, subst, ⊎_elim, arith}
 use Rattle.std.proofs.lemmas.Bool.{and_parts, cases_lt, leb-true}
+use Rattle.std.proofs.lemmas.Option.{cond_some}
 use Rattle.search.specs.declared.answer.Answer.{Answer}
 use Rattle.search.specs.declared.answer.Answer.TheVariants.{Close, Clear}
 use Rattle.search.proofs.FromAnswers.{close_answer, clear_answer}
@@ -13,11 +14,6 @@ use Rattle.scan.specs.Passed.{StaysWithin, PassesNoneClose, CandidateIsClose}
 use Rattle.scan.specs.Steps.{answer_along, told, step_of, step_in}
 use Rattle.scan.specs.declared.steps.Step.{Step}
 
--- what a test with one thing or none answers
-some_where : {A : Type 0} (b : Bool) (x y : A) → Some x ≡ cond b (Some y) None → (b ≡ true) × (x ≡ y)
-some_where true x y e = (refl, cc)
-some_where false x y e = let z : ◌≡◌ {A = ℕ} 0 1 = cc in absurd (omega arith)
-
 -- where there is a window from s up to t, the range is within the curve, and the line is the curve's
 pub record LineThere (m : Meaning) (s t : ℕ) (l : Line) : Type 0 where
   pub some : s < t
@@ -27,11 +23,11 @@ pub record LineThere (m : Meaning) (s t : ℕ) (l : Line) : Type 0 where
 pub line_there : (m : Meaning) (D s t : ℕ) (l : Line) (w : Window) → WindowAnswered m s (t - s) D l w → LineThere m s t l
 line_there m D s t l w g =
     let n = t - s in
-    let e = some_where (leb 1 n && leb (s + n) m.count) (l, w) (m.line s n, window_of m.modulus (m.line s n) D) g.is in
+    let e = cond_some (leb 1 n && leb (s + n) m.count) (m.line s n, window_of m.modulus (m.line s n) D) (l, w) (sym g.is) in
     let p = and_parts (leb 1 n) (leb (s + n) m.count) e.0 in
     let some : 1 ≤ t - s = leb-true 1 n p.0 in
     let within : s + (t - s) ≤ m.count = leb-true (s + n) m.count p.1 in
-    record { some = omega arith; within = omega arith; is = ap (λ (q : Line × Window). q.0) e.1 }
+    record { some = omega arith; within = omega arith; is = ap (λ (q : Line × Window). q.0) (sym e.1) }
 
 -- an index of the reach that is no candidate is not close
 far_at : (m : Meaning) (D s n k : ℕ) (l : Line) (w : Window) → WindowAnswered m s n D l w → s ≤ k → k < s + l.reach →
