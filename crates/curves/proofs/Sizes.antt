@@ -54,6 +54,49 @@ module _ (n : ℕ) (c1 c2 : ℤ) (k p : ℕ) (h : n ≤ 2 ^ 40) (h1 : unsigned_a
   value_read M =
       ap (λ z. residue M (to_z w64 (of_z w64 z))) value_computed ∙ ap (residue M) (to_z-of_z w64 _ value_fits)
 
+-- c0 + c1·k fits too
+pub front_fits : (n : ℕ) (c1 : ℤ) (k : ℕ) → n ≤ 2 ^ 40 → unsigned_abs c1 ≤ 2 ^ 40 → k ≤ 2 ^ 20 →
+    FitsSigned w64 (to_z w64 n +ℤ to_z w64 (of_z w64 (to_z w64 (of_z w64 c1) *ℤ to_z w64 k)))
+front_fits n c1 k h h1 few =
+    let y = product_within c1 k (2 ^ 40) (2 ^ 20) h1 few in
+    let whole = sum_within (pos n) (c1 *ℤ pos k) (2 ^ 40) (2 ^ 60) h y in
+    let f1 : FitsSigned w64 c1 = fits_signed_from_abs w64 _ (omega arith) in
+    let f3 : FitsSigned w64 (c1 *ℤ pos k) = fits_signed_from_abs w64 _ (omega arith) in
+    let f5 : FitsSigned w64 (pos n +ℤ (c1 *ℤ pos k)) = fits_signed_from_abs w64 _ (omega (arith, whole)) in
+    let a : to_z w64 n ≡ pos n = to_z_pos w64 n (omega arith) in
+    let b : to_z w64 k ≡ pos k = to_z_pos w64 k (omega arith) in
+    let e : to_z w64 n +ℤ to_z w64 (of_z w64 (to_z w64 (of_z w64 c1) *ℤ to_z w64 k)) ≡ pos n +ℤ (c1 *ℤ pos k) = simp (to_z-of_z, a, b) in
+    rw e f5
+
+-- c1 + c2·s, and its negation
+abbrev summed : (c1 c2 : ℤ) (s : ℕ) → ℤ
+summed c1 c2 s = to_z w64 (of_z w64 c1) +ℤ to_z w64 (of_z w64 (to_z w64 (of_z w64 c2) *ℤ to_z w64 s))
+
+module _ (c1 c2 : ℤ) (s : ℕ) (h1 : unsigned_abs c1 ≤ 2 ^ 40) (h2 : unsigned_abs c2 ≤ 2 ^ 20) (few : s ≤ 2 ^ 20) where
+  sum_small : unsigned_abs (c1 +ℤ (c2 *ℤ pos s)) ≤ 2 ^ 40 + 2 ^ 40
+  sum_small = sum_within c1 (c2 *ℤ pos s) (2 ^ 40) (2 ^ 40) h1 (product_within c2 s (2 ^ 20) (2 ^ 20) h2 few)
+
+  sum_fits : FitsSigned w64 (c1 +ℤ (c2 *ℤ pos s))
+  sum_fits = fits_signed_from_abs w64 _ (omega (arith, sum_small))
+
+  sum_computed : summed c1 c2 s ≡ c1 +ℤ (c2 *ℤ pos s)
+  sum_computed =
+      let z = product_within c2 s (2 ^ 20) (2 ^ 20) h2 few in
+      let f1 : FitsSigned w64 c1 = fits_signed_from_abs w64 _ (omega arith) in
+      let f2 : FitsSigned w64 c2 = fits_signed_from_abs w64 _ (omega arith) in
+      let f3 : FitsSigned w64 (c2 *ℤ pos s) = fits_signed_from_abs w64 _ (omega arith) in
+      let b : to_z w64 s ≡ pos s = to_z_pos w64 s (omega arith) in
+      simp (to_z-of_z, b)
+
+  pub slope_sum_fits : FitsSigned w64 (summed c1 c2 s)
+  slope_sum_fits = rw sum_computed sum_fits
+
+  pub slope_fits : FitsSigned w64 (pos 0 -ℤ to_z w64 (of_z w64 (summed c1 c2 s)))
+  slope_fits =
+      let e : to_z w64 (of_z w64 (summed c1 c2 s)) ≡ c1 +ℤ (c2 *ℤ pos s) =
+      ap (λ z. to_z w64 (of_z w64 z)) sum_computed ∙ to_z-of_z w64 _ sum_fits in
+      rw e (fits_signed_from_abs w64 _ (omega (arith, negated_within (c1 +ℤ (c2 *ℤ pos s)) (2 ^ 40 + 2 ^ 40) sum_small)))
+
 -- −(c1 + c2·s), as 64 bits compute it
 pub slope_read : (c1 c2 : ℤ) (s : ℕ) → unsigned_abs c1 ≤ 2 ^ 40 → unsigned_abs c2 ≤ 2 ^ 20 → s ≤ 2 ^ 20 → (M : ℕ) →
     residue M

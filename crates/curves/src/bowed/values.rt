@@ -16,7 +16,7 @@ pub(super) fn pairs_among(k: u32) -> u64
 
 impl Bowed {
     /// (c0 + c1·k + c2·k(k − 1)/2) mod M.
-    #[tactic(auto, using(crate::proofs::Sizes::computed_fits, crate::proofs::Sizes::value_read))]
+    #[tactic(auto, using(crate::proofs::Sizes::front_fits, crate::proofs::Sizes::computed_fits, crate::proofs::Sizes::value_read))]
     pub(super) fn value_at(self, k: u32) -> u64
         requires an_index { k < self.count }
         ensures is_the_value { result ≡ bowed_value self.modulus.value self.c0 self.c1 self.c2 k }
@@ -27,7 +27,7 @@ impl Bowed {
     }
 
     /// −(c1 + c2·s) mod M.
-    #[tactic(auto, using(crate::proofs::Sizes::slope_read))]
+    #[tactic(auto, using(crate::proofs::Sizes::slope_sum_fits, crate::proofs::Sizes::slope_fits, crate::proofs::Sizes::slope_read))]
     pub(super) fn slope_at(self, s: u32) -> u64
         requires an_index { s < self.count }
         ensures is_the_slope { result ≡ residue self.modulus.value (neg_ℤ (self.c1 +ℤ (self.c2 *ℤ pos s))) }
