@@ -29,6 +29,7 @@ impl CurveRefusal {
     }
 }
 
+// Each layer has a refusal of its own, and each conversion an impl.
 impl From<ModulusRefusal> for CurveRefusal {
     ghost from_gives = { λ x y. y ≡ Modulus x };
 

@@ -28,6 +28,7 @@ impl Arithmetic for Double {
 
     ghost reaches = { Prim.search rules };
 
+    // The order's lemma stands in both laws: the law of an impl cannot name another of its members.
     ghost ordered = { λ x y. order_is_that_of_units binary64 (2 ^ 40) (lit≤ tt) x.units y.units x.whole y.whole };
 
     ghost total = { total_over_units (λ x. units_of x.units) (λ x y. Ieee.lt x.units y.units) (λ x y. order_is_that_of_units binary64 (2 ^ 40) (lit≤ tt) x.units y.units x.whole y.whole) };

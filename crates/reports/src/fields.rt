@@ -68,6 +68,8 @@ impl<'a> Fields<'a> {
         self.rest.is_none()
     }
 
+    // Two methods and not one over the reader of a field: each is one line.
+
     /// The number of the next field.
     pub(crate) fn number(&mut self) -> Option<u64>
         ensures is_the_number_with_the_rest { option_map (λ n. (n, self.new)) result ≡ number_first self.old }

@@ -58,7 +58,8 @@ pub enum Shape {
     Straight { slope: u64, offset: u64 },
     /// (c0 + c1·k + c2·k(k − 1)/2) mod modulus at each index k.
     Bowed { c0: u64, c1: i64, c2: i64 },
-    /// Value k mod modulus at each index k below the count. No more values than these are kept of a line.
+    /// Value k mod modulus at each index k below the count, which stands in the order: a line may give any count, and no more values than
+    /// these are kept of it.
     Listed { values: [u64; MOST_LISTED] },
 }
 

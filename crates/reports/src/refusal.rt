@@ -43,6 +43,7 @@ impl LineRefusal {
     }
 }
 
+// Each layer has a refusal of its own, and each conversion an impl.
 impl From<ModulusRefusal> for LineRefusal {
     ghost from_gives = { λ x y. y ≡ Modulus x };
 

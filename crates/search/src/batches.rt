@@ -4,6 +4,7 @@ ghost use Rattle.std.specs.Prelude.{◌≡◌, ◌+◌, ◌-◌, ◌*◌, ◌^�
 use lengths::arithmetic::Arithmetic;
 
 /// A batch of steps: how many, and the length that they leave.
+// Neither compared nor printed, like an arithmetic's lengths.
 #[derive(Clone, Copy)]
 pub(crate) struct Batch<A> {
     pub steps: u64,

@@ -10,7 +10,7 @@ use grid::modulus::Modulus;
 mod limited;
 
 /// The claim that no (offset − k·slope) mod modulus for k below `points` is less than the threshold, with five numbers for it.
-#[derive(Clone, Copy)]
+#[derive(Clone, Copy, PartialEq, Eq, Debug)]
 pub(crate) struct Claim {
     pub modulus: Modulus,
     pub slope: u64,

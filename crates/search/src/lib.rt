@@ -17,7 +17,8 @@ pub mod refusal;
 pub mod stretch;
 pub mod vouching;
 
-/// Looks for the least k below `points` with (offset − k·slope) mod modulus below the threshold, in any arithmetic.
+/// Looks for the least k below `points` with (offset − k·slope) mod modulus below the threshold, in any arithmetic. Callers have the numbers in
+/// structs of their own, so they are parameters here and a stretch within.
 pub fn search<A: Arithmetic>(
     modulus: u64,
     slope: u64,

@@ -6,6 +6,7 @@ use crate::evidence::Evidence;
 use lengths::arithmetic::Arithmetic;
 
 /// A configuration, the index r whose gap holds the offset, and the distance d of the offset above point r.
+// Neither compared nor printed, like an arithmetic's lengths.
 #[derive(Clone, Copy)]
 pub(crate) struct Place<A> {
     pub u: u64,

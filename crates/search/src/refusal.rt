@@ -28,6 +28,7 @@ impl SearchRefusal {
     }
 }
 
+// Each layer has a refusal of its own, and each conversion an impl.
 impl From<ModulusRefusal> for SearchRefusal {
     ghost from_gives = { λ x y. y ≡ Modulus x };
 

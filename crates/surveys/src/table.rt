@@ -9,6 +9,7 @@ mod states;
 
 /// The terms (threshold and block length), the states of the blocks in the first `blocks` places, and the booked indices in the first
 /// `booked` places. The book rises, and each of its indices lies in a settled block.
+// Neither compared nor printed: what it means is the ledger's part and the book.
 #[derive(Clone, Copy)]
 pub(crate) struct Table {
     pub(crate) threshold: u64,

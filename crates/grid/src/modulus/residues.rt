@@ -1,4 +1,5 @@
-// Numbers mod M. Every residue, and above all every residue of a product, is computed here.
+// Numbers mod M. Every residue, and above all every residue of a product, is computed here. That a residue is below M is said by each
+// method and not by a type of residues, which would put a wrapper round every number above.
 ghost use Rattle.std.specs.Prelude.{◌≡◌, ℕ, ◌*◌, ◌%◌, ◌<◌, ℤ, pos, ◌-ℤ◌, ◌*ℤ◌};
 ghost use Rattle.grid.specs.Residue.{residue};
 

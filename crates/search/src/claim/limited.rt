@@ -7,7 +7,7 @@ use crate::claim::Claim;
 use crate::evidence::Evidence;
 
 /// A claim whose numbers keep their limits.
-#[derive(Clone, Copy)]
+#[derive(Clone, Copy, PartialEq, Eq, Debug)]
 pub(super) struct Limited {
     pub(super) claim: Claim,
     ghost within: { Within claim.modulus.value claim.points claim.numbers },
