@@ -24,7 +24,8 @@ pub(crate) fn window_on_line<C: Curve>(
     Some((line, Window::over(curve.modulus(), line, threshold)))
 }
 
-/// The value less half the threshold, rounded down. Not exported for those who have the numbers: of any two the difference need not fit.
+/// The value less half the threshold, rounded down. Not exported for those who have the numbers: an exported call may
+/// have no `requires`.
 fn above_half(value: u64, threshold: u64) -> i64
     requires below_every_modulus { value < 2 ^ 40 }
     ensures is_the_difference { result ≡ pos value -ℤ pos (threshold / 2) }

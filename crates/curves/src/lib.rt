@@ -1,5 +1,6 @@
 #![tactic(auto)]
 // Curves over the grid: their values, and the lines that stand for stretches of them.
+// An exported call only calls an inner one with its clauses, so that a wrong one is refused here and not in a proof.
 ghost use Rattle.curves.specs.Offsets.{offset_answer};
 ghost use Rattle.curves.specs.Windows.{CloseAreCandidates, CutLosesNothing, DistancesAreValues, WhereAnswered, WithinLimits, line_window_of};
 ghost use Rattle.std.specs.Prelude.{◌≡◌};
@@ -56,10 +57,6 @@ mod tests {
     use std::process::Abort;
     use std::test::Fail;
 
-    fn made<T: Drop>(made: Result<T, CurveRefusal>) -> Result<T, Fail> {
-        made.map_err(|_| Fail::new("refused"))
-    }
-
     // The number of the refusal, if there is one.
     fn refused<T: Drop>(made: Result<T, CurveRefusal>) -> Option<u32> {
         made.err().map(|refusal| refusal.number())
@@ -86,7 +83,7 @@ mod tests {
 
     #[test]
     fn shifts_add_up_over_a_bowed_curve(rt: HostRuntime) -> Result<(), Fail> {
-        let bowed = made(Bowed::new(1000, 5, 5, -3, 2, 3))?;
+        let bowed = Bowed::new(1000, 5, 5, -3, 2, 3)?;
         assert_eq!(rt; bowed.line(0, 5), some_line(3, 3, 5, 2));
         assert_eq!(rt; bowed.line(0, 2), some_line(2, 3, 5, 0));
         figures_raised_by_10(&rt, &Shifted::new(Shifted::new(bowed, 990), 20));
@@ -110,20 +107,20 @@ mod tests {
     #[test]
     fn curves_answer_at_their_limits(rt: HostRuntime) -> Result<(), Fail> {
         let last = (1 << 20) - 1;
-        let straight = made(Straight::new(1 << 40, 1 << 20, (1 << 40) - 1, (1 << 40) - 1))?;
+        let straight = Straight::new(1 << 40, 1 << 20, (1 << 40) - 1, (1 << 40) - 1)?;
         assert_eq!(rt; straight.value(last), Some((1 << 20) - 2));
         assert_eq!(rt; straight.value(last + 1), None);
         assert_eq!(rt; straight.line(last, 2), None);
         assert_eq!(rt; straight.line(0, 0), None);
         assert_eq!(rt; straight.line(u32::MAX, u32::MAX), None);
-        let bowed = made(Bowed::new(
+        let bowed = Bowed::new(
             1 << 40,
             1 << 20,
             (1 << 40) - 1,
             1 - (1 << 40),
             -(1 << 20),
             (1 << 40) - 1,
-        ))?;
+        )?;
         assert_eq!(rt; bowed.value(last), Some(549755813886));
         assert_eq!(rt;
             bowed.line(1046576, 2000),
@@ -148,7 +145,7 @@ mod tests {
 
     #[test]
     fn windows_and_offsets_take_any_threshold(rt: HostRuntime) -> Result<(), Fail> {
-        let bowed = made(Bowed::new(1000, 5, 5, -3, 2, 3))?;
+        let bowed = Bowed::new(1000, 5, 5, -3, 2, 3)?;
         let (_, narrow) = line_window(&bowed, 0, 5, 3).ok_or("no line")?;
         let expected = Window {
             offset: 7,

@@ -29,7 +29,7 @@ impl CurveRefusal {
     }
 }
 
-// Each layer has a refusal of its own, and each conversion an impl.
+// Written by hand for each layer's refusal, and not derived: a clause names what it gives.
 impl From<ModulusRefusal> for CurveRefusal {
     ghost from_gives = { λ x y. y ≡ Modulus x };
 

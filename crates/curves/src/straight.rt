@@ -6,6 +6,8 @@ use grid::modulus::Modulus;
 mod answers;
 mod making;
 
+// The modulus and the count stand in each curve and not in a struct for both: its clauses name them as the curve's own.
+
 /// F(k) = (offset − k·slope) mod M for k below the count.
 #[derive(Clone, Copy, PartialEq, Eq, Debug)]
 pub struct Straight {

@@ -5,7 +5,7 @@ use sheets::assignment::Assignment;
 use sheets::judge;
 use sheets::refusal::SheetRefusal;
 
-/// A curve of either kind.
+/// A curve of either kind. An enum and not a `dyn Curve`, which a function may not hand out.
 #[derive(Clone, Copy, PartialEq, Eq, Debug)]
 enum Shape {
     Straight(Straight),

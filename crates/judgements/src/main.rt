@@ -5,7 +5,10 @@ mod sheet_table;
 mod verdicts;
 
 use sheet_table::show_sheets;
+use std::io::BufReader;
 
 fn main(rt: HostRuntime) -> anyhow::Result<()> {
-    show_sheets(&rt, rt.alloc())
+    // The reader over the runtime's own handle (`rt.reader()`) would rest on one C function more.
+    let input = BufReader::new(rt.alloc(), rt.stdin())?;
+    show_sheets(&rt, rt.alloc(), input)
 }

@@ -35,7 +35,7 @@ impl From<AllocError> for NoRow {
     }
 }
 
-/// The value of a hex digit.
+/// The value of a hex digit. Not by the kit's `hex`, which takes capitals too.
 fn digit(byte: u8) -> Option<u8> {
     match byte {
         b'0'..=b'9' => Some(byte - b'0'),
@@ -110,10 +110,15 @@ fn show_line(rt: &impl Print, heap: Global, number: u32, line: &[u8]) -> anyhow:
     Ok(())
 }
 
-/// Judges the sheets of the table on standard input, and prints a line for each.
-pub(crate) fn show_sheets(rt: &(impl Input + Print), heap: Global) -> anyhow::Result<()> {
-    let mut table = rt.reader().take(MOST_BYTES);
+/// Judges the sheets of a table, and prints a line for each.
+pub(crate) fn show_sheets<R: BufRead + Drop>(
+    rt: &impl Print,
+    heap: Global,
+    input: R,
+) -> anyhow::Result<()> {
+    let mut table = input.take(MOST_BYTES);
     let mut line = Vec::new(heap);
+    // Lines after the 9,999th are not read.
     for number in 1..10_000u32 {
         line.clear();
         if table.read_until(b'\n', &mut line)? == 0 {

@@ -7,7 +7,7 @@ use crate::fault::RecordFault;
 use crate::fields::array_at;
 use crate::record::Record;
 
-/// The count in the body of an end.
+/// The count in the body of an end. A function and no `From`, which is std's own for numbers.
 pub fn read_count(body: &[u8; 4]) -> u32
     ensures is_the_number_of_the_body { result ≡ field body.now 0 4 }
 {

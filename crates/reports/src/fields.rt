@@ -5,7 +5,8 @@ ghost use Rattle.std.specs.Option.{option_map};
 use crate::numbers::{read_number, read_signed};
 use std::marker::Model;
 
-/// The fields of a line that are left.
+/// The fields of a line that are left. Not std's `split`, whose law is that of a whole run: the reader's clauses speak of the fields left after
+/// each one.
 #[derive(Drop)]
 pub(crate) struct Fields<'a> {
     /// The line from the next field on, where one is left.

@@ -1,8 +1,18 @@
 ghost use Rattle.std.specs.Prelude.{◌≡◌, ◌+◌, ◌*◌, ◌^◌, ◌<◌};
 ghost use Rattle.reports.specs.Limits.{threshold_of};
-ghost use Rattle.reports.specs.Lines.{kind_of, mode_of};
+ghost use Rattle.reports.specs.Lines.{kind_of, letter, mode_of};
 
 use crate::refusal::LineRefusal;
+
+/// The byte of a field that holds just one.
+fn lone_letter(field: &[u8]) -> Option<char>
+    ensures is_the_letter { result ≡ letter field.now }
+{
+    match field {
+        [byte] => Some(*byte as char),
+        _ => None,
+    }
+}
 
 /// How the function whose curve is surveyed is rounded.
 #[derive(Clone, Copy, PartialEq, Eq, Debug)]
@@ -17,9 +27,9 @@ impl TryFrom<&[u8]> for Mode {
     ghost try_from_gives = { λ field mode. mode ≡ mode_of field.now };
 
     fn try_from(field: &[u8]) -> Result<Mode, LineRefusal> {
-        match field {
-            b"D" => Ok(Mode::Directed),
-            b"N" => Ok(Mode::Nearest),
+        match lone_letter(field) {
+            Some('D') => Ok(Mode::Directed),
+            Some('N') => Ok(Mode::Nearest),
             _ => Err(LineRefusal::Letter),
         }
     }
@@ -39,10 +49,10 @@ impl TryFrom<&[u8]> for Kind {
     ghost try_from_gives = { λ field kind. kind ≡ kind_of field.now };
 
     fn try_from(field: &[u8]) -> Result<Kind, LineRefusal> {
-        match field {
-            b"S" => Ok(Kind::Straight),
-            b"B" => Ok(Kind::Bowed),
-            b"L" => Ok(Kind::Listed),
+        match lone_letter(field) {
+            Some('S') => Ok(Kind::Straight),
+            Some('B') => Ok(Kind::Bowed),
+            Some('L') => Ok(Kind::Listed),
             _ => Err(LineRefusal::Letter),
         }
     }

@@ -15,7 +15,7 @@ pub(crate) struct Point {
 
 impl Point {
     /// How far the value lies above the middle of the values below the threshold. (As a curve's offset; the two are not one exported function,
-    /// since of any two numbers the difference need not fit.)
+    /// which may have no `requires`.)
     fn offset(self) -> i64
         ensures is_the_offset { result ≡ value_offset self.threshold self.hit.value }
     {

@@ -1,5 +1,6 @@
 #![tactic(auto)]
 // The close indices of any curve, found along its lines, in any arithmetic.
+// An exported call only calls an inner one with its clauses, so that a wrong one is refused here and not in a proof.
 ghost use Rattle.scan.specs.Nexts.{NextClose};
 ghost use Rattle.scan.specs.Passed.{CandidateIsClose, PassesNoneClose, StaysWithin};
 ghost use Rattle.scan.specs.Steps.{step_of};
@@ -74,9 +75,7 @@ mod tests {
 
     #[test]
     fn both_arithmetics_find_what_the_values_show(rt: HostRuntime) -> Result<(), Fail> {
-        let Ok(bowed) = Bowed::new(997, 500, 10, -37, 1, 40) else {
-            return Err(Fail::new("refused"));
-        };
+        let bowed = Bowed::new(997, 500, 10, -37, 1, 40)?;
         let curve = Shifted::new(Shifted::new(bowed, 5), 996);
         finds_what_the_values_show::<u64, Shifted<Shifted<Bowed>>>(&rt, &curve, 20);
         finds_what_the_values_show::<Double, Shifted<Shifted<Bowed>>>(&rt, &curve, 20);

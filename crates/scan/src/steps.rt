@@ -1,8 +1,8 @@
 // Steps: how far along a curve one search leads.
 use search::evidence::Evidence;
 
-/// What the search of one line tells of the indices from a place on. Each case has data of its own, so that it is neither an `Option` nor a
-/// `Result`.
+/// What the search of one line tells of the indices from a place on. Not a `Result`: neither case is a failure, and callers
+/// name the fields.
 #[derive(Clone, Copy, PartialEq, Eq, Debug)]
 pub enum Step {
     /// None of the reach is a candidate, with the evidence for the reach.

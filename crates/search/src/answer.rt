@@ -1,6 +1,6 @@
 use crate::evidence::Evidence;
 
-/// What a search finds. Each case has data of its own, so that it is neither an `Option` nor a `Result`.
+/// What a search finds. Not a `Result`: neither case is a failure, and callers name the fields.
 #[derive(Clone, Copy, PartialEq, Eq, Debug)]
 pub enum Answer {
     /// The least close index, its value, and the evidence for that many points; index 0 has no points before it, so none.

@@ -12,12 +12,13 @@ pub(crate) struct Batch<A> {
 }
 
 /// How many steps that each add `by` points it takes to add `need` points.
+#[tactic(auto, using(std::proofs::lemmas::Grind::div_ceil_times))]
 pub(crate) fn steps_for(need: u64, by: u64) -> u64
-    requires { (1 ≤ need) × (1 ≤ by) }
+    requires some { (1 ≤ need) × (1 ≤ by) }
     ensures at_least_one { 1 ≤ result }
     ensures one_less_is_too_few { (result - 1) * by < need }
 {
-    (need - 1) / by + 1
+    need.div_ceil(by)
 }
 
 /// Whether the length has no units: then it is not more than itself less itself.

@@ -10,6 +10,7 @@ use grid::modulus::Modulus;
 mod limited;
 
 /// The claim that no (offset − k·slope) mod modulus for k below `points` is less than the threshold, with five numbers for it.
+/// Not a stretch, which keeps its limits: a claim is made of any numbers.
 #[derive(Clone, Copy, PartialEq, Eq, Debug)]
 pub(crate) struct Claim {
     pub modulus: Modulus,
@@ -28,7 +29,7 @@ impl Claim {
     {
         let most = self.modulus.get();
         let Evidence { u, v, x, y, r } = self.numbers;
-        // An `if` and not `then`: in a closure behind the test the proof lacks what the test tells.
+        // An `if` and not `then`: in the closure the proof of the ghost field lacks what the test tells.
         if (1..=self.points).contains(&u)
             && (1..=self.points).contains(&v)
             && self.points - u <= v

@@ -39,7 +39,7 @@ impl<A: Arithmetic> Place<A> {
         }
     }
 
-    // The next two mirror each other, x for y and u for v. Each is one line, and to mirror the numbers there and back is no shorter.
+    // The next two mirror each other, x for y and u for v. Each is short, and to mirror the numbers there and back is no shorter.
 
     /// The evidence after t steps that shorten x.
     pub fn evidence_after_x(self, t: u64) -> Evidence

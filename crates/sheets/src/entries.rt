@@ -1,4 +1,4 @@
-// The faults of one record.
+// The faults of one record. An `Option` and not a `Result`, as the definitions have it: a fault is what is looked for.
 ghost use Rattle.std.specs.Prelude.{◌≡◌, not};
 ghost use Rattle.records.specs.Entries.{end, head};
 ghost use Rattle.records.specs.Reading.{says};

@@ -1,5 +1,5 @@
 #![tactic(auto)]
-// The judge of sheets. A sheet is what a hired house sends back for a block of a survey: its hits, and records that call the rest clean.
+// The judge of sheets, which only calls an inner one with its clauses, so that a wrong one is refused here and not in a proof. A sheet is what a hired house sends back for a block of a survey: its hits, and records that call the rest clean.
 ghost use Rattle.sheets.specs.Laws.{AFaultIsTheLeastWhereAllBeforeIsInOrder, CleanRecordsPassExactlyWhereNoneIsClose, HitsAreTheCloseIndices, PassesExactlyWhenTheRulesAreKept};
 ghost use Rattle.sheets.specs.Verdict.{counted, lent, verdict};
 ghost use Rattle.std.specs.Prelude.{◌≡◌};

@@ -1,6 +1,6 @@
 // What one record brings.
 
-/// What the judge does behind a record without a fault.
+/// What the judge does behind a record without a fault: three things, and so no `ControlFlow`.
 #[derive(Clone, Copy, PartialEq, Eq, Debug)]
 pub(crate) enum Turn {
     /// The sheet is over.

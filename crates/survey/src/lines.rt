@@ -17,7 +17,8 @@ fn read_part<R: BufRead>(input: &mut R, line: &mut Vec<u8>, most: usize) -> io::
     Read::take(&mut *input, most as u64).read_until(b'\n', line)
 }
 
-/// Reads the next line without its end, keeps up to `most` bytes of it, and answers whether there was one.
+/// Reads the next line without its end, keeps up to `most` bytes of it, and answers whether there was one; the bytes are in the caller's buffer,
+/// which serves every line.
 pub(crate) fn next_line<R: BufRead>(
     input: &mut R,
     line: &mut Vec<u8>,

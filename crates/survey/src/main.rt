@@ -11,6 +11,7 @@ use std::io::{BufRead, BufReader};
 fn run<R: BufRead>(rt: &impl Print, heap: Global, input: &mut R) -> anyhow::Result<()> {
     let mut line = Vec::new(heap);
     let most = telling_bytes();
+    // Lines after the 9,999th are not read.
     for number in 1..10_000u32 {
         if !next_line(input, &mut line, most)? {
             break;

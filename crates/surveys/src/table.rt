@@ -1,4 +1,5 @@
-// What a survey keeps beside its curve. Arrays stand beside the numbers of their places in use, since a survey never allocates.
+// What a survey keeps beside its curve. Plain arrays of a fixed size, made by
+// repetition, stand beside the numbers of their places in use: that is the form that a survey's memory has to have.
 ghost use Rattle.std.specs.Prelude.{◌≡◌, ◌≤◌, true, take};
 ghost use Rattle.surveys.specs.Books.{lies_settled, rises};
 
@@ -9,7 +10,7 @@ mod states;
 
 /// The terms (threshold and block length), the states of the blocks in the first `blocks` places, and the booked indices in the first
 /// `booked` places. The book rises, and each of its indices lies in a settled block.
-// Neither compared nor printed: what it means is the ledger's part and the book.
+// Neither compared nor printed.
 #[derive(Clone, Copy)]
 pub(crate) struct Table {
     pub(crate) threshold: u64,

@@ -10,7 +10,7 @@ use crate::survey::Survey;
 use crate::table::Table;
 use curves::curve::Curve;
 
-/// How many blocks of a length there are.
+/// How many blocks of a length there are. Not by `div_ceil`: that it rounds as the ledger does was not found.
 fn block_count(count: u32, length: u32) -> u64
     requires some_length { 1 ≤ length }
     ensures rounded_up { result ≡ (count + (length - 1)) / length }
