@@ -36,8 +36,8 @@ impl Ticket {
         } = self;
     }
 
-    /// Takes the ticket back where a call was accepted, and hands it back beside the refusal where not. A `match`: no closure of `map_err` may
-    /// hold a ticket that it might let go.
+    /// Takes the ticket back where a call was accepted, and hands it back beside the refusal where not. A `match` and no `map_err`: both arms
+    /// take the ticket.
     pub(super) fn spent_on<E>(self, outcome: Result<(), E>) -> Result<(), (E, Ticket)>
         ensures hands_it_back_with_a_refusal { result ≡ returning self outcome }
     {
