@@ -103,7 +103,7 @@ def same_names():
     """Free functions and methods of one name in several files, but for makers, readers of numbers and what a trait asks for."""
     of_traits = set()
     for _, text in sources():
-        for block in re.findall(r"^(?:pub )?trait \w+.*?^\}|^impl(?:<[^>]*>)? [\w<>:, ]+ for .*?^\}", text, re.M | re.S):
+        for block in re.findall(r"^(?:pub )?trait \w+.*?^\}|^impl(?:<[^>]*>)? [^\n{]+ for .*?^\}", text, re.M | re.S):
             of_traits.update(re.findall(r"\bfn (\w+)", block))
     where = collections.defaultdict(list)
     for place, function, _, _ in functions():

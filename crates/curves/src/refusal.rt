@@ -17,7 +17,7 @@ pub enum CurveRefusal {
 }
 
 impl CurveRefusal {
-    /// The number of the refusal, as it is printed.
+    /// The number of the refusal, as it is printed: which number is which refusal's is a rule.
     pub fn number(self) -> u32
         ensures the_number_of_the_case { result ≡ number_of self }
     {

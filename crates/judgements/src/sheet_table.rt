@@ -44,7 +44,7 @@ fn digit(byte: u8) -> Option<u8> {
     }
 }
 
-/// The byte that two hex digits write.
+/// The byte that two hex digits write; none of a digit alone, which `chunks` leaves at an odd end.
 fn byte_of(pair: &[u8]) -> Option<u8> {
     let [high, low] = pair else {
         return None;
@@ -118,7 +118,7 @@ pub(crate) fn show_sheets<R: BufRead + Drop>(
 ) -> anyhow::Result<()> {
     let mut table = input.take(MOST_BYTES);
     let mut line = Vec::new(heap);
-    // Lines after the 9,999th are not read.
+    // Lines after the 9,999th are not read. (The other program's loop looks alike, but keeps a part of a line.)
     for number in 1..10_000u32 {
         line.clear();
         if table.read_until(b'\n', &mut line)? == 0 {

@@ -13,7 +13,7 @@ pub(crate) enum Verdict {
     Refused(SheetRefusal),
 }
 
-/// A verdict as the table writes it: `passes:3`, `27@68` or `19`.
+/// A verdict as the table writes it: `passes:3`, `27@68` or `19`. Nothing compares it.
 #[derive(Clone, Copy)]
 struct Short<'a>(&'a Verdict);
 

@@ -4,7 +4,7 @@ ghost use Rattle.std.specs.Prelude.{◌≡◌, ℕ, ◌-◌, ◌/◌, ◌%◌, �
 /// An arithmetic on lengths from 0 up to a modulus.
 ///
 /// Everything that it answers is what whole units answer, without loss. It has an order and a difference of its own, and not those of std's
-/// `PartialOrd` and `Sub`, whose clauses say nothing of units.
+/// `PartialOrd` and `Sub`, whose clauses say nothing of units; nor is it made by `From`, which may not ask that a number is carried.
 pub trait Arithmetic: Copy {
     /// The largest modulus that the arithmetic carries. Generic code reads it by `limit`.
     const LARGEST: u64;

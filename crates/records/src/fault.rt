@@ -12,7 +12,7 @@ pub enum RecordFault {
 }
 
 impl RecordFault {
-    /// The number of the fault, as it is printed.
+    /// The number of the fault, as it is printed: which number is which fault's is a rule.
     pub fn number(self) -> u32
         ensures the_number_of_the_case { result ≡ number_of self }
     {

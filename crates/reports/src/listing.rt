@@ -5,7 +5,7 @@ use crate::point::Point;
 use crate::summary::Summary;
 use std::fmt;
 
-/// What is printed of a book, for the line with that number.
+/// What is printed of a book, for the line with that number. Nothing compares it, nor what it lends.
 #[derive(Clone, Copy)]
 pub(crate) struct Listing<'a> {
     number: u32,

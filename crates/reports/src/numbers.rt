@@ -19,7 +19,7 @@ pub(crate) fn read_number(field: &[u8]) -> Option<u64>
     Some(number)
 }
 
-/// The number that digits write, with one minus before them if it is negative.
+/// The number that digits write, with one minus before them if it is negative: the reader above, and a sign.
 pub(crate) fn read_signed(field: &[u8]) -> Option<i64>
     ensures is_the_signed_number { result ≡ signed_of field.now }
 {

@@ -41,7 +41,7 @@ fn shift(order: Order) -> u64
     }
 }
 
-/// The close points of the curve of an order that keeps its limits.
+/// The close points of the curve of an order that keeps its limits. The arms end alike, but each has a curve of another type.
 fn gather_shape(order: Order) -> Result<Book, LineRefusal>
     requires within_limits { judged order ≡ Ok tt }
     ensures holds_the_close_points { held_by result ≡ booked (hits_of (meaning_of order) (threshold_of order)) }

@@ -82,7 +82,7 @@ fn read_order(kind: Kind, mode: Mode, mut fields: Fields<'_>) -> Option<Order>
     })
 }
 
-/// What a line of input, without its end, asks for.
+/// What a line of input, without its end, asks for. Functions and no `TryFrom`: bytes are not an order, they ask for one.
 pub fn read(line: &[u8]) -> Result<Order, LineRefusal>
     ensures is_what_the_line_says { result ≡ reading line.now }
 {

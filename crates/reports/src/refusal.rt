@@ -26,7 +26,7 @@ pub enum LineRefusal {
 }
 
 impl LineRefusal {
-    /// The number that is printed for the refusal.
+    /// The number that is printed for the refusal: which number is which refusal's is a rule.
     pub fn number(self) -> u32
         ensures is_the_number_of_the_refusal { result ≡ refusal_number self }
     {

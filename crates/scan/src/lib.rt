@@ -31,7 +31,8 @@ pub fn step<A: Arithmetic, C: Curve>(
     along::step_along::<A, C>(curve, threshold, place, end)
 }
 
-/// The least index k from `from` on, below `to` and below the count, whose value is below the threshold; none where there is none.
+/// The least index k from `from` on, below `to` and below the count, whose value is below the threshold; none where there is none. The struct
+/// of its parameters is `CloseIndices`.
 pub fn next_close<A: Arithmetic, C: Curve>(
     curve: &C,
     threshold: u64,

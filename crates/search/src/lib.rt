@@ -1,5 +1,6 @@
 #![tactic(auto)]
 // The search for the first point of a line that comes too near the grid, and the evidence that none does.
+// An exported call only calls an inner one with its clauses, so that a wrong one is refused here and not in a proof.
 ghost use Rattle.search.specs.Answers.{searched};
 ghost use Rattle.std.specs.Prelude.{◌≡◌};
 

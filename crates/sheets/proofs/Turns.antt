@@ -119,6 +119,7 @@ passed : (b : Bool) (f : Fault) (o : Option Fault) → cond b (Some f) o ≡ Non
 passed true f o h = (cc, cc)
 passed false f o h = (refl, h)
 
+-- a lemma, since without it the number that is left open below is not determined
 same : (n : ℕ) → eqb n n ≡ true
 same n = eq-eqb n n refl
 

@@ -1,4 +1,5 @@
-// The faults of one record. An `Option` and not a `Result`, as the definitions have it: a fault is what is looked for.
+// The faults of one record. An `Option` and not a `Result`, as the definitions have it: a fault is what is looked for. Hits and misses
+// have an arm each, since the comparison is all that the arms say.
 ghost use Rattle.std.specs.Prelude.{◌≡◌, not};
 ghost use Rattle.records.specs.Entries.{end, head};
 ghost use Rattle.records.specs.Reading.{says};

@@ -19,7 +19,7 @@ mod turn;
 
 /// Judges the bytes of a sheet for a block of a curve. Where it passes, answers how many hits it has and lays the first 512 of them into
 /// the lent places; where it does not, answers why and at which byte, and the places keep what they held. The judge takes no memory: a caller
-/// lends it, and the count says how much of it is used.
+/// lends it, and the count says how much of it is used. What it is given are four parameters, since callers have them apart; within they are one.
 pub fn judge<C: Curve>(
     curve: &C,
     assignment: Assignment,

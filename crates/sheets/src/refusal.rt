@@ -14,7 +14,7 @@ pub enum SheetRefusal {
 }
 
 impl SheetRefusal {
-    /// The number of the refusal, as it is printed.
+    /// The number of the refusal, as it is printed: which number is which refusal's is a rule.
     pub fn number(self) -> u32
         ensures the_number_of_the_case { result ≡ number_of self }
     {

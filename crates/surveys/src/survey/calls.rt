@@ -26,7 +26,7 @@ use sheets::assignment::Assignment;
 use sheets::blocks::{start_of, stop_of};
 use sheets::judge;
 
-/// So many of the first places, where there are as many.
+/// So many of the first places, where there are as many: the judge lays hits into an array that it is lent.
 fn first_of(places: &[u32; 512], count: u32) -> Result<&[u32], NoRoom>
     ensures are_the_first_or_they_are_too_few { FirstOf places.now count result }
 {
@@ -164,6 +164,7 @@ impl<C: Curve> Survey<C> {
         ensures does_as_the_ledger_says { Stepped (view C.meaning self.old) (recall block) (recall_answer result) (view C.meaning self.new) }
         ensures refusal_keeps_the_survey { Refuses (recall_answer result) → self.new ≡ self.old }
     {
+        // An `if`: the state that the block comes to is not needed.
         if self.table.after(block, Act::Recall).is_none() {
             return Err(RecallRefusal::NotSettled);
         }

@@ -1,4 +1,4 @@
-// The book of a table.
+// The book of a table, which is an array: what is done to it is given the array and how many of its places are in use.
 ghost use Rattle.std.specs.Prelude.{◌≡◌, ◌+◌, ◌-◌, ◌<◌, ◌≤◌, true, false, ◌++◌, length, take, drop, slice_index_or, slice_range, slice_set};
 ghost use Rattle.std.specs.List.{list_all};
 ghost use Rattle.surveys.specs.Books.{below, is_in_block, put_in, rises, taken_out};

@@ -55,8 +55,8 @@ impl Table {
         self.states().iter().all(|state| *state == State::Waiting)
     }
 
-    /// Moves a block that is not settled. That it is there and what it is not are said again at each call that moves it: both speak of the
-    /// table as it is then, which no field of a block could.
+    /// Moves a block that is not settled. That it is there and what it is not are said again at each call that moves it, and so is that the
+    /// terms stay: they speak of the table as it is then, which no field of a block could.
     pub(crate) fn mark(&mut self, block: u32, state: State)
         requires there { block < self.old.blocks }
         requires not_settled { is_settled (slice_index_or (states_of self.old) block Waiting) ≡ false }
