@@ -51,7 +51,7 @@ impl Claim {
     }
 
     /// The same, with the laws that make the numbers worth asking for.
-    pub fn holds(self) -> bool
+    pub(crate) fn holds(self) -> bool
         ensures true_exactly_when_they_vouch { T result ↔ Vouches self.modulus.value self.slope self.offset self.threshold self.points self.numbers }
         ensures is_the_test_of_the_numbers { result ≡ vouching self.modulus.value self.slope self.offset self.threshold self.points self.numbers }
         ensures vouching_numbers_give_the_least_distance { VouchingNumbersGiveTheLeastDistance }

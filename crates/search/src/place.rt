@@ -27,7 +27,7 @@ pub(crate) struct Hit {
 
 impl<A: Arithmetic> Place<A> {
     /// The place as evidence.
-    pub fn evidence(self) -> Evidence
+    pub(crate) fn evidence(self) -> Evidence
         ensures the_numbers_of_the_place { result ≡ evidence_at (spot A.units self) }
     {
         Evidence {
@@ -42,7 +42,7 @@ impl<A: Arithmetic> Place<A> {
     // The next two mirror each other, x for y and u for v. Each is short, and to mirror the numbers there and back is no shorter.
 
     /// The evidence after t steps that shorten x.
-    pub fn evidence_after_x(self, t: u64) -> Evidence
+    pub(crate) fn evidence_after_x(self, t: u64) -> Evidence
         requires fits { (t * A.units self.y ≤ A.units self.x) × (self.v + t * self.u < 2 ^ 32) }
         ensures the_lengths_after_t_steps { result ≡ shorter_x (spot A.units self) t }
     {
@@ -55,7 +55,7 @@ impl<A: Arithmetic> Place<A> {
     }
 
     /// The evidence after t steps that shorten y, at the point r.
-    pub fn evidence_after_y(self, t: u64, r: u64) -> Evidence
+    pub(crate) fn evidence_after_y(self, t: u64, r: u64) -> Evidence
         requires fits { (t * A.units self.x ≤ A.units self.y) × (self.u + t * self.v < 2 ^ 32) }
         ensures the_lengths_after_t_steps { result ≡ shorter_y (spot A.units self) t r }
     {

@@ -37,7 +37,7 @@ impl<A: Arithmetic> Walk<A> {
 
     /// Shortens x by y as often as something is left, or until there are points enough. The point below the offset moves where the offset
     /// lies in an x gap that gets too short for it, by v indices then.
-    pub fn shorten_x(&self, s: Place<A>) -> ControlFlow<Hit, Place<A>>
+    pub(crate) fn shorten_x(&self, s: Place<A>) -> ControlFlow<Hit, Place<A>>
         requires under_way { Walking self.now.stretch (spot A.units s) }
         requires x_is_longer { A.units s.y < A.units s.x }
         ensures hits_or_goes_on { Turned A.units self.now.stretch (spot A.units s) result }

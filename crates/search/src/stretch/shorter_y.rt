@@ -58,7 +58,7 @@ impl<A: Arithmetic> Walk<A> {
 
     /// Shortens y by x as often as it goes, or until there are points enough. Where the offset lies in a y gap, the point below it moves
     /// by x with each step, as long as it stays below and there are points.
-    pub fn shorten_y(&self, s: Place<A>) -> ControlFlow<Hit, Place<A>>
+    pub(crate) fn shorten_y(&self, s: Place<A>) -> ControlFlow<Hit, Place<A>>
         requires under_way { Walking self.now.stretch (spot A.units s) }
         requires x_is_no_longer { A.units s.x ≤ A.units s.y }
         ensures hits_or_goes_on { Turned A.units self.now.stretch (spot A.units s) result }
