@@ -18,57 +18,54 @@ negated_within : (z : ℤ) (m : ℕ) → unsigned_abs z ≤ m → unsigned_abs (
 negated_within (pos a) m h = omega (arith, ints)
 negated_within (negsuc a) m h = omega (arith, ints)
 
--- c0 + c1·k + c2·p, as 64 bits compute it
-abbrev computed : (n : ℕ) (c1 c2 : ℤ) (k p : ℕ) → ℤ
-computed n c1 c2 k p =
-    to_z w64 (of_z w64 (to_z w64 n +ℤ to_z w64 (of_z w64 (to_z w64 (of_z w64 c1) *ℤ to_z w64 k))))
-    +ℤ to_z w64 (of_z w64 (to_z w64 (of_z w64 c2) *ℤ to_z w64 p))
+-- ---- c0 + c1·k, and with c2·p added, as 64 bits compute them
 
-module _ (n : ℕ) (c1 c2 : ℤ) (k p : ℕ) (h : n ≤ 2 ^ 40) (h1 : unsigned_abs c1 ≤ 2 ^ 40) (h2 : unsigned_abs c2 ≤ 2 ^ 20) (few : k ≤ 2 ^ 20) (pairs_few : p ≤ 2 ^ 39) where
+abbrev front : (n : ℕ) (c1 : ℤ) (k : ℕ) → ℤ
+front n c1 k = to_z w64 n +ℤ to_z w64 (of_z w64 (to_z w64 (of_z w64 c1) *ℤ to_z w64 k))
+
+abbrev computed : (n : ℕ) (c1 c2 : ℤ) (k p : ℕ) → ℤ
+computed n c1 c2 k p = to_z w64 (of_z w64 (front n c1 k)) +ℤ to_z w64 (of_z w64 (to_z w64 (of_z w64 c2) *ℤ to_z w64 p))
+
+module _ (n : ℕ) (c1 : ℤ) (k : ℕ) (h : n ≤ 2 ^ 40) (h1 : unsigned_abs c1 ≤ 2 ^ 40) (few : k ≤ 2 ^ 20) where
   front_within : unsigned_abs (pos n +ℤ (c1 *ℤ pos k)) ≤ 2 ^ 40 + 2 ^ 60
   front_within = sum_within (pos n) (c1 *ℤ pos k) (2 ^ 40) (2 ^ 60) h (product_within c1 k (2 ^ 40) (2 ^ 20) h1 few)
 
-  value_fits : FitsSigned w64 ((pos n +ℤ (c1 *ℤ pos k)) +ℤ (c2 *ℤ pos p))
-  value_fits =
-      fits_signed_from_abs w64 _
-      (omega (arith, sum_within (pos n +ℤ (c1 *ℤ pos k)) (c2 *ℤ pos p) (2 ^ 40 + 2 ^ 60) (2 ^ 59) front_within (product_within c2 p (2 ^ 20) (2 ^ 39) h2 pairs_few)))
-
-  value_computed : computed n c1 c2 k p ≡ (pos n +ℤ (c1 *ℤ pos k)) +ℤ (c2 *ℤ pos p)
-  value_computed =
+  front_computed : front n c1 k ≡ pos n +ℤ (c1 *ℤ pos k)
+  front_computed =
       let y = product_within c1 k (2 ^ 40) (2 ^ 20) h1 few in
-      let z = product_within c2 p (2 ^ 20) (2 ^ 39) h2 pairs_few in
       let f1 : FitsSigned w64 c1 = fits_signed_from_abs w64 _ (omega arith) in
-      let f2 : FitsSigned w64 c2 = fits_signed_from_abs w64 _ (omega arith) in
       let f3 : FitsSigned w64 (c1 *ℤ pos k) = fits_signed_from_abs w64 _ (omega arith) in
-      let f4 : FitsSigned w64 (c2 *ℤ pos p) = fits_signed_from_abs w64 _ (omega arith) in
-      let f5 : FitsSigned w64 (pos n +ℤ (c1 *ℤ pos k)) = fits_signed_from_abs w64 _ (omega (arith, front_within)) in
       let a : to_z w64 n ≡ pos n = to_z_pos w64 n (omega arith) in
       let b : to_z w64 k ≡ pos k = to_z_pos w64 k (omega arith) in
-      let d : to_z w64 p ≡ pos p = to_z_pos w64 p (omega arith) in
-      simp (to_z-of_z, a, b, d)
+      simp (to_z-of_z, a, b)
 
-  pub computed_fits : FitsSigned w64 (computed n c1 c2 k p)
-  computed_fits = rw value_computed value_fits
+  pub front_fits : FitsSigned w64 (front n c1 k)
+  front_fits = rw front_computed (fits_signed_from_abs w64 _ (omega (arith, front_within)))
 
-  pub value_read : (M : ℕ) → residue M (to_z w64 (of_z w64 (computed n c1 c2 k p))) ≡ residue M ((pos n +ℤ (c1 *ℤ pos k)) +ℤ (c2 *ℤ pos p))
-  value_read M =
-      ap (λ z. residue M (to_z w64 (of_z w64 z))) value_computed ∙ ap (residue M) (to_z-of_z w64 _ value_fits)
+  module _ (c2 : ℤ) (p : ℕ) (h2 : unsigned_abs c2 ≤ 2 ^ 20) (pairs_few : p ≤ 2 ^ 39) where
+    value_fits : FitsSigned w64 ((pos n +ℤ (c1 *ℤ pos k)) +ℤ (c2 *ℤ pos p))
+    value_fits =
+        fits_signed_from_abs w64 _
+        (omega (arith, sum_within (pos n +ℤ (c1 *ℤ pos k)) (c2 *ℤ pos p) (2 ^ 40 + 2 ^ 60) (2 ^ 59) front_within (product_within c2 p (2 ^ 20) (2 ^ 39) h2 pairs_few)))
 
--- c0 + c1·k fits too
-pub front_fits : (n : ℕ) (c1 : ℤ) (k : ℕ) → n ≤ 2 ^ 40 → unsigned_abs c1 ≤ 2 ^ 40 → k ≤ 2 ^ 20 →
-    FitsSigned w64 (to_z w64 n +ℤ to_z w64 (of_z w64 (to_z w64 (of_z w64 c1) *ℤ to_z w64 k)))
-front_fits n c1 k h h1 few =
-    let y = product_within c1 k (2 ^ 40) (2 ^ 20) h1 few in
-    let whole = sum_within (pos n) (c1 *ℤ pos k) (2 ^ 40) (2 ^ 60) h y in
-    let f1 : FitsSigned w64 c1 = fits_signed_from_abs w64 _ (omega arith) in
-    let f3 : FitsSigned w64 (c1 *ℤ pos k) = fits_signed_from_abs w64 _ (omega arith) in
-    let f5 : FitsSigned w64 (pos n +ℤ (c1 *ℤ pos k)) = fits_signed_from_abs w64 _ (omega (arith, whole)) in
-    let a : to_z w64 n ≡ pos n = to_z_pos w64 n (omega arith) in
-    let b : to_z w64 k ≡ pos k = to_z_pos w64 k (omega arith) in
-    let e : to_z w64 n +ℤ to_z w64 (of_z w64 (to_z w64 (of_z w64 c1) *ℤ to_z w64 k)) ≡ pos n +ℤ (c1 *ℤ pos k) = simp (to_z-of_z, a, b) in
-    rw e f5
+    value_computed : computed n c1 c2 k p ≡ (pos n +ℤ (c1 *ℤ pos k)) +ℤ (c2 *ℤ pos p)
+    value_computed =
+        let z = product_within c2 p (2 ^ 20) (2 ^ 39) h2 pairs_few in
+        let f2 : FitsSigned w64 c2 = fits_signed_from_abs w64 _ (omega arith) in
+        let f4 : FitsSigned w64 (c2 *ℤ pos p) = fits_signed_from_abs w64 _ (omega arith) in
+        let f5 : FitsSigned w64 (pos n +ℤ (c1 *ℤ pos k)) = fits_signed_from_abs w64 _ (omega (arith, front_within)) in
+        let d : to_z w64 p ≡ pos p = to_z_pos w64 p (omega arith) in
+        simp (to_z-of_z, front_computed, d)
 
--- c1 + c2·s, and its negation
+    pub computed_fits : FitsSigned w64 (computed n c1 c2 k p)
+    computed_fits = rw value_computed value_fits
+
+    pub value_read : (M : ℕ) → residue M (to_z w64 (of_z w64 (computed n c1 c2 k p))) ≡ residue M ((pos n +ℤ (c1 *ℤ pos k)) +ℤ (c2 *ℤ pos p))
+    value_read M =
+        ap (λ z. residue M (to_z w64 (of_z w64 z))) value_computed ∙ ap (residue M) (to_z-of_z w64 _ value_fits)
+
+-- ---- c1 + c2·s and its negation, as 64 bits compute them
+
 abbrev summed : (c1 c2 : ℤ) (s : ℕ) → ℤ
 summed c1 c2 s = to_z w64 (of_z w64 c1) +ℤ to_z w64 (of_z w64 (to_z w64 (of_z w64 c2) *ℤ to_z w64 s))
 
@@ -91,25 +88,18 @@ module _ (c1 c2 : ℤ) (s : ℕ) (h1 : unsigned_abs c1 ≤ 2 ^ 40) (h2 : unsigne
   pub slope_sum_fits : FitsSigned w64 (summed c1 c2 s)
   slope_sum_fits = rw sum_computed sum_fits
 
-  pub slope_fits : FitsSigned w64 (pos 0 -ℤ to_z w64 (of_z w64 (summed c1 c2 s)))
-  slope_fits =
-      let e : to_z w64 (of_z w64 (summed c1 c2 s)) ≡ c1 +ℤ (c2 *ℤ pos s) =
-      ap (λ z. to_z w64 (of_z w64 z)) sum_computed ∙ to_z-of_z w64 _ sum_fits in
-      rw e (fits_signed_from_abs w64 _ (omega (arith, negated_within (c1 +ℤ (c2 *ℤ pos s)) (2 ^ 40 + 2 ^ 40) sum_small)))
+  -- the sum that was computed is the sum
+  sum_read : to_z w64 (of_z w64 (summed c1 c2 s)) ≡ c1 +ℤ (c2 *ℤ pos s)
+  sum_read = ap (λ z. to_z w64 (of_z w64 z)) sum_computed ∙ to_z-of_z w64 _ sum_fits
 
--- −(c1 + c2·s), as 64 bits compute it
-pub slope_read : (c1 c2 : ℤ) (s : ℕ) → unsigned_abs c1 ≤ 2 ^ 40 → unsigned_abs c2 ≤ 2 ^ 20 → s ≤ 2 ^ 20 → (M : ℕ) →
-    residue M
-    (to_z w64 (of_z w64 (pos 0 -ℤ to_z w64 (of_z w64 (to_z w64 (of_z w64 c1) +ℤ to_z w64 (of_z w64 (to_z w64 (of_z w64 c2) *ℤ to_z w64 s)))))))
-    ≡ residue M (neg_ℤ (c1 +ℤ (c2 *ℤ pos s)))
-slope_read c1 c2 s h1 h2 few M =
-    let z = product_within c2 s (2 ^ 20) (2 ^ 20) h2 few in
-    let sum = sum_within c1 (c2 *ℤ pos s) (2 ^ 40) (2 ^ 40) h1 z in
-    let negated = negated_within (c1 +ℤ (c2 *ℤ pos s)) (2 ^ 40 + 2 ^ 40) sum in
-    let f1 : FitsSigned w64 c1 = fits_signed_from_abs w64 _ (omega arith) in
-    let f2 : FitsSigned w64 c2 = fits_signed_from_abs w64 _ (omega arith) in
-    let f3 : FitsSigned w64 (c2 *ℤ pos s) = fits_signed_from_abs w64 _ (omega arith) in
-    let f4 : FitsSigned w64 (c1 +ℤ (c2 *ℤ pos s)) = fits_signed_from_abs w64 _ (omega arith) in
-    let f5 : FitsSigned w64 (pos 0 -ℤ (c1 +ℤ (c2 *ℤ pos s))) = fits_signed_from_abs w64 _ (omega arith) in
-    let b : to_z w64 s ≡ pos s = to_z_pos w64 s (omega arith) in
-    ap (residue M) (simp (to_z-of_z, b) (omega (arith, ints)))
+  negated_fits : FitsSigned w64 (pos 0 -ℤ (c1 +ℤ (c2 *ℤ pos s)))
+  negated_fits = fits_signed_from_abs w64 _ (omega (arith, negated_within (c1 +ℤ (c2 *ℤ pos s)) (2 ^ 40 + 2 ^ 40) sum_small))
+
+  pub slope_fits : FitsSigned w64 (pos 0 -ℤ to_z w64 (of_z w64 (summed c1 c2 s)))
+  slope_fits = rw sum_read negated_fits
+
+  pub slope_read : (M : ℕ) →
+      residue M (to_z w64 (of_z w64 (pos 0 -ℤ to_z w64 (of_z w64 (summed c1 c2 s))))) ≡ residue M (neg_ℤ (c1 +ℤ (c2 *ℤ pos s)))
+  slope_read M =
+      ap (λ z. residue M (to_z w64 (of_z w64 (pos 0 -ℤ z)))) sum_read
+      ∙ ap (residue M) (to_z-of_z w64 _ negated_fits ∙ omega (arith, ints))
