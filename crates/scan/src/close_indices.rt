@@ -3,7 +3,7 @@ ghost use Rattle.curves.specs.Closes.{close_between};
 ghost use Rattle.std.specs.Iterator.{YieldsFirst, item_count};
 ghost use Rattle.std.specs.Prelude.{◌≡◌, ◌≤◌, min};
 
-use crate::nexts::first_close;
+use crate::next_close;
 use curves::curve::Curve;
 use lengths::arithmetic::Arithmetic;
 use std::marker::PhantomData;
@@ -46,7 +46,7 @@ impl<'c, A: Arithmetic, C: Curve> Iterator for CloseIndices<'c, A, C> {
 
     #[tactic(auto, using(crate::proofs::Left::least_first, crate::proofs::Left::none_is_left))]
     fn next(&mut self) -> Option<u32> {
-        let index = first_close::<A, C>(self.curve, self.threshold, self.next, self.end)?;
+        let index = next_close::<A, C>(self.curve, self.threshold, self.next, self.end)?;
         self.next = index + 1;
         Some(index)
     }
