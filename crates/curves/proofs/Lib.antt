@@ -1,4 +1,3 @@
 pub mod CloseIndices
 pub mod Questions
-pub mod Sizes
 pub mod WindowLaws

@@ -1,7 +1,8 @@
 -- Congruence mod M over the natural numbers, and the residues of differences and of multiples.
-use Rattle.std.proofs.Common.{◌≡◌, ℕ, zero, suc, ◌+◌, ◌-◌, ◌*◌, ◌/◌, ◌%◌, ◌<◌, ◌≤◌, ltb, ℤ, pos, negsuc, ◌-ℤ◌, ◌*ℤ◌, neg_ℤ, sym, ap, ◌∙◌, mod-lt, mod-eq_of_lt, div-add-mod', le_of_mul-le-mul_right, arith}
+use Rattle.std.proofs.Common.{◌≡◌, ℕ, zero, suc, ◌+◌, ◌-◌, ◌*◌, ◌/◌, ◌%◌, ◌<◌, ◌≤◌, ltb, ℤ, pos, negsuc, ◌-ℤ◌, ◌*ℤ◌, unsigned_abs, ◌<ℤ◌, ◌≤ℤ◌, refl, sym, ap, ◌∙◌, mod-lt, mod-eq_of_lt, div-add-mod', le_of_mul-le-mul_right, arith}
 use native.Mathlib.Nat.{add-mul-mod_self_right}
 use Rattle.std.proofs.lemmas.Bool.{ltb-true, ltb-false, cond_both}
+use Rattle.std.proofs.lemmas.Int.{ints}
 use Rattle.grid.specs.Congruent.{Same}
 use Rattle.grid.specs.Residue.{residue}
 
@@ -72,33 +73,15 @@ residue_at_residues M p t w l s =
       is = omega (arith, s.is, div-add-mod' p M, div-add-mod' t M);
     })
 
--- ---- the residue of a multiple
+-- ---- the multiples of a signed number
 
--- (−t) mod M
-rest_of_negative : (M t : ℕ) → 0 < M → Rest M (residue M (neg_ℤ (pos t))) 0 t
-rest_of_negative M zero h = (mod-lt 0 h, record { i = 0 / M; j = 0; is = omega (arith, div-add-mod' 0 M) })
-rest_of_negative M (suc t) h =
-    let m : t % M < M = mod-lt t h in
-    (omega arith, record { i = 0; j = suc (t / M); is = omega (arith, div-add-mod' t M) })
+-- a negative number times k is what its size times k takes off 0
+pub negative_times : (c : ℤ) (k : ℕ) → c <ℤ pos 0 → pos 0 -ℤ pos (unsigned_abs c * k) ≡ c *ℤ pos k
+negative_times (pos a) k below = omega (arith, ints, below)
+negative_times (negsuc n) zero below = omega (arith, ints)
+negative_times (negsuc n) (suc k) below = omega (arith, ints)
 
-rest_times : (M w p t k : ℕ) → 0 < M → Same M (w + t) p → Rest M (w * k % M) (p * k) (t * k)
-rest_times M w p t k h s = (
-  mod-lt (w * k) h,
-  record {
-    i = s.i * k + w * k / M;
-    j = s.j * k;
-    is = omega (arith, ap (λ n. n * k) s.is, div-add-mod' (w * k) M);
-  },
-)
-
--- z·k mod M is w·k mod M for the residue w of z
-pub residue_times : (M : ℕ) (z : ℤ) (k : ℕ) → 0 < M → residue M (z *ℤ pos k) ≡ residue M z * k % M
-residue_times M (pos n) k h =
-    rest_is_one M (n * k % M) (n % M * k % M) (n * k) (0 * k)
-    (mod-lt (n * k) h, record { i = n * k / M; j = 0; is = omega (arith, div-add-mod' (n * k) M) })
-    (rest_times M (n % M) n 0 k h (record { i = n / M; j = 0; is = omega (arith, div-add-mod' n M) }))
-residue_times M (negsuc n) k h =
-    let r = rest_of_negative M (suc n * k) h in
-    rest_is_one M (residue M (neg_ℤ (pos (suc n * k)))) ((M - 1 - n % M) * k % M) (0 * k) (suc n * k)
-    (r.0, record { i = r.1.i; j = r.1.j; is = omega (arith, r.1.is) })
-    (rest_times M (M - 1 - n % M) 0 (suc n) k h (rest_of_negative M (suc n) h).1)
+-- the residue of a number's multiple, where the number is not negative
+pub positive_times : (M : ℕ) (c : ℤ) (k : ℕ) → pos 0 ≤ℤ c → residue M (c *ℤ pos k) ≡ unsigned_abs c * k % M
+positive_times M (pos a) k above = refl
+positive_times M (negsuc n) k above = absurd (omega (arith, ints, above))

@@ -29,8 +29,11 @@ impl<'a> Curve for Listed<'a> {
     }
 
     fn line(&self, place: u32, length: u32) -> Option<Line> {
+        if !is_within(place, length, self.count()) {
+            return None;
+        }
         let offset = self.value(place)?;
-        is_within(place, length, self.count()).then_some(Line {
+        Some(Line {
             reach: 1,
             slope: 0,
             offset,

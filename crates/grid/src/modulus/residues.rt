@@ -1,6 +1,6 @@
 // Numbers mod M. Every residue, and above all every residue of a product, is computed here. That a residue is below M is said by each
 // method and not by a type of residues, which would put a wrapper round every number above.
-ghost use Rattle.std.specs.Prelude.{◌≡◌, ℕ, ◌*◌, ◌%◌, ◌<◌, ℤ, pos, ◌-ℤ◌, ◌*ℤ◌};
+ghost use Rattle.std.specs.Prelude.{◌≡◌, ℕ, ◌*◌, ◌%◌, ◌<◌, ℤ, pos, ◌-ℤ◌, ◌*ℤ◌, unsigned_abs};
 ghost use Rattle.grid.specs.Residue.{residue};
 
 use crate::modulus::Modulus;
@@ -38,7 +38,7 @@ impl Modulus {
         ensures is_the_residue { result ≡ residue self.value (c *ℤ pos k) }
         ensures below_the_modulus { result < self.value }
     {
-        self.multiple(self.residue_signed(c), k)
+        self.with_the_sign(c, self.residue_product(self.residue(c.unsigned_abs()), k))
     }
 
     /// (b - k·a) mod M.
@@ -49,12 +49,13 @@ impl Modulus {
         self.difference(self.residue(b), self.residue_product(k, a))
     }
 
-    /// z·k mod M for every z with the residue p.
-    fn multiple(self, p: u64, k: u64) -> u64
-        ensures of_all_with_the_residue { (z : ℤ) → p ≡ residue self.value z → result ≡ residue self.value (z *ℤ pos k) }
+    /// c·k mod M for every k for which the residue of |c|, times k, has the residue p.
+    fn with_the_sign(self, c: i64, p: u64) -> u64
+        requires a_residue { p < self.value }
+        ensures of_all_with_the_residue { (k : ℕ) → p ≡ unsigned_abs c % self.value * k % self.value → result ≡ residue self.value (c *ℤ pos k) }
         ensures below_the_modulus { result < self.value }
     {
-        self.residue_product(p, k)
+        if c < 0 { self.difference(0, p) } else { p }
     }
 
     /// (s - t) mod M for all s with the residue p and t with the residue q.
