@@ -32,3 +32,12 @@ impl From<&[u8; 36]> for CleanStretch {
         }
     }
 }
+
+impl CleanStretch {
+    /// The numbers in the body of a clean record, by a name that tells what is done.
+    pub fn read(body: &[u8; 36]) -> CleanStretch
+        ensures has_the_numbers_of_the_body { result ≡ clean_in body.now }
+    {
+        CleanStretch::from(body)
+    }
+}

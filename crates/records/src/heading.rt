@@ -26,3 +26,12 @@ impl From<&[u8; 24]> for Heading {
         }
     }
 }
+
+impl Heading {
+    /// The numbers in the body of a head, by a name that tells what is done.
+    pub fn read(body: &[u8; 24]) -> Heading
+        ensures has_the_numbers_of_the_body { result ≡ heading_in body.now }
+    {
+        Heading::from(body)
+    }
+}

@@ -22,3 +22,12 @@ impl From<&[u8; 12]> for Point {
         }
     }
 }
+
+impl Point {
+    /// The numbers in the body of a hit or a miss, by a name that tells what is done.
+    pub fn read(body: &[u8; 12]) -> Point
+        ensures has_the_numbers_of_the_body { result ≡ point_in body.now }
+    {
+        Point::from(body)
+    }
+}

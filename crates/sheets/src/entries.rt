@@ -111,14 +111,14 @@ impl<C: Curve> Judge<'_, C> {
         let threshold = self.assignment.threshold;
         match record {
             Record::Head(_) => Some(Fault::Head),
-            Record::Clean(body) => self.clean_fault(progress.next, CleanStretch::from(body)),
+            Record::Clean(body) => self.clean_fault(progress.next, CleanStretch::read(body)),
             Record::Hit(body) => {
-                let point = Point::from(body);
+                let point = Point::read(body);
                 self.point_fault(progress.next, point)
                     .or((point.value >= threshold).then_some(Fault::Closeness))
             }
             Record::Miss(body) => {
-                let point = Point::from(body);
+                let point = Point::read(body);
                 self.point_fault(progress.next, point)
                     .or((point.value < threshold).then_some(Fault::Closeness))
             }
@@ -134,7 +134,7 @@ impl<C: Curve> Judge<'_, C> {
         ensures is_not_another { not result ≡ is_not_the_head (C.meaning self.now.curve.now) self.now.assignment (says «record».entry) }
     {
         match record {
-            Record::Head(body) => self.is_the_head(Heading::from(body)),
+            Record::Head(body) => self.is_the_head(Heading::read(body)),
             Record::Clean(_) | Record::Hit(_) | Record::Miss(_) | Record::End(_) => false,
         }
     }
@@ -145,7 +145,7 @@ pub(crate) fn points_of(record: Record<'_>) -> u32
     ensures are_those_it_covers { result ≡ points_of (says «record».entry) }
 {
     match record {
-        Record::Clean(body) => CleanStretch::from(body).points,
+        Record::Clean(body) => CleanStretch::read(body).points,
         Record::Hit(_) | Record::Miss(_) => 1,
         Record::Head(_) | Record::End(_) => 0,
     }
