@@ -1,7 +1,6 @@
 -- How the close indices of a block are gathered and entered. Only inner functions cite this file.
 use Rattle.std.specs.Prelude.{◌≡◌, ℕ, ◌<◌, ◌≤◌, true, false, List, length, take, Ok, Err, Result}
 use denote.Ref.{Bor}
-use Rattle.arrayvec.specs.ArrayVec.{ArrayVec}
 use Rattle.curves.specs.Meaning.{Meaning}
 use Rattle.surveys.specs.Books.{put_in}
 use Rattle.surveys.specs.Keeper.{ledger_of}
@@ -12,10 +11,10 @@ use Rattle.surveys.specs.declared.state.State.TheVariants.{Settled}
 use Rattle.surveys.specs.declared.table.Table.{Table}
 use Rattle.surveys.specs.declared.ticket.Ticket.{Ticket}
 
--- these are the indices, or they are more than 512
-abbrev pub Gathered : List ℕ → Result (ArrayVec ℕ) NoRoom → Type 0
-Gathered indices (Ok run) = run.items ≡ indices
-Gathered indices (Err none) = 512 < length indices
+-- the indices stand in the first places, or they are more than 512
+abbrev pub Gathered : List ℕ → List ℕ → Result ℕ NoRoom → Type 0
+Gathered indices places (Ok count) = (count ≤ 512) × (take count places ≡ indices)
+Gathered indices places (Err none) = 512 < length indices
 
 -- so many of the first places, or there are fewer than so many
 abbrev pub FirstOf : List ℕ → (count : ℕ) → Result (Bor (List ℕ)) NoRoom → Type 0

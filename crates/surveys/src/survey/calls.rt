@@ -19,14 +19,13 @@ use crate::refusal::working::WorkRefusal;
 use crate::state::State;
 use crate::survey::Survey;
 use crate::ticket::Ticket;
-use arrayvec::ArrayVec;
 use curves::curve::Curve;
 use lengths::arithmetic::Arithmetic;
 use sheets::assignment::Assignment;
 use sheets::blocks::{start_of, stop_of};
 use sheets::judge;
 
-/// So many of the first places, where there are as many: the judge lays hits into an array that it is lent.
+/// So many of the first places, where there are as many: the search and the judge lay indices into an array that they are lent.
 fn first_of(places: &[u32; 512], count: u32) -> Result<&[u32], NoRoom>
     ensures are_the_first_or_they_are_too_few { FirstOf places.now count result }
 {
@@ -90,14 +89,15 @@ impl<C: Curve> Survey<C> {
         }
     }
 
-    /// Finds the close indices of a block along the curve's lines, where they are no more than a book has room for.
-    fn close_run<A: Arithmetic>(&self, block: u32) -> Result<ArrayVec<u32, 512>, NoRoom>
-        ensures has_them_all_or_they_are_too_many { Gathered (close_in (C.meaning self.now.curve) (ledger_of self.now.table) block) result }
+    /// Lays the close indices of a block, found along the curve's lines, into the places and answers how many they are, where they are no more
+    /// than a book has room for.
+    fn close_run<A: Arithmetic>(&self, block: u32, places: &mut [u32; 512]) -> Result<u32, NoRoom>
+        ensures has_them_all_or_they_are_too_many { Gathered (close_in (C.meaning self.now.curve) (ledger_of self.now.table) block) places.new result }
     {
         let asked = self.asked(block);
         let from = start_of(&self.curve, asked);
         let to = stop_of(&self.curve, asked);
-        gather::<A, C>(&self.curve, asked.threshold, from, to)
+        gather::<A, C>(&self.curve, asked.threshold, from, to, places)
     }
 
     /// Enters the close indices of a block that is not settled, where the book has room for them.
@@ -122,8 +122,9 @@ impl<C: Curve> Survey<C> {
     {
         self.after(ticket, Act::Work).ok_or(WorkRefusal::NotOut)?;
         let block = ticket.block();
-        let run = self.close_run::<A>(block)?;
-        self.enter_run(block, run.as_slice())?;
+        let mut places = [0; 512];
+        let count = self.close_run::<A>(block, &mut places)?;
+        self.enter_run(block, first_of(&places, count)?)?;
         Ok(())
     }
 
