@@ -1,5 +1,5 @@
 -- The bytes of a line before its end.
-use Rattle.std.proofs.Common.{◌≢◌, ◌≡◌, ℕ, zero, suc, ◌+◌, ◌-◌, ◌<◌, ◌≤◌, Bool, true, false, eqb, List, [], ◌∷◌, ◌++◌, length, take, slice_get, Some, None, Option, IfSome, sym, refl, ap, ◌∙◌, ⊎_elim, ne_eqb, arith}
+use Rattle.std.proofs.Common.{◌≢◌, ◌≡◌, ℕ, zero, suc, ◌+◌, ◌-◌, ◌<◌, ◌≤◌, Bool, true, false, eqb, List, [], ◌∷◌, ◌++◌, length, take, slice_get, Some, None, Option, IfSome, sym, refl, ap, ◌∙◌, ⊎_elim, ne_eqb, append-nil, ◌==◌, arith}
 use Rattle.std.specs.List.{All, before_first, position_or_len}
 use Rattle.std.specs.Io.{StopsAt}
 use Rattle.std.specs.Io.BufRead.{take_through}
@@ -54,3 +54,13 @@ pub first_bytes : (known : Option (List ℕ)) (n : ℕ) (read kept rest : List �
 first_bytes None n read kept rest e f a z = tt
 first_bytes (Some xs) n read kept rest e f a z =
     sym (before_the_rest kept rest a z) ∙ ap (before_first line_end) (sym f ∙ e) ∙ read_up_to n xs
+
+-- the same where no byte that was read is a line end
+pub all_kept : (known : Option (List ℕ)) (n : ℕ) (read : List ℕ) → IfSome known (λ xs. read ≡ take_through 10 (take n xs)) →
+    All (λ c. c ≢ 10) read → IfSome known (λ xs. read ≡ take n (before_first (λ c. c == 10) xs))
+all_kept known n read e a = first_bytes known n read read [] e (sym (append-nil read)) a refl
+
+-- the same where the last byte that was read is one
+pub all_but_the_end : (known : Option (List ℕ)) (n : ℕ) (read kept : List ℕ) → IfSome known (λ xs. read ≡ take_through 10 (take n xs)) →
+    read ≡ kept ++ 10 ∷ [] → All (λ c. c ≢ 10) kept → IfSome known (λ xs. kept ≡ take n (before_first (λ c. c == 10) xs))
+all_but_the_end known n read kept e f a = first_bytes known n read kept (10 ∷ []) e f a refl

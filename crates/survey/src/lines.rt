@@ -19,6 +19,7 @@ fn read_part<R: BufRead>(input: &mut R, line: &mut Vec<u8>, most: usize) -> io::
 
 /// Reads the next line without its end, keeps up to `most` bytes of it, and answers whether there was one; the bytes are in the caller's buffer,
 /// which serves every line.
+#[tactic(auto, using(crate::proofs::Ends::no_line_end, crate::proofs::Ends::all_kept, crate::proofs::Ends::all_but_the_end))]
 pub(crate) fn next_line<R: BufRead>(
     input: &mut R,
     line: &mut Vec<u8>,
@@ -33,10 +34,64 @@ pub(crate) fn next_line<R: BufRead>(
         Some(b'\n') => {
             line.pop();
         }
-        // The end of the line comes behind the bytes that are kept, or the input ends before it.
+        // The end of the line comes behind the bytes that are kept, if as many are kept as may be; else the input ended before it, and is not
+        // read again.
         Some(_) => {
-            input.skip_until(b'\n')?;
+            if line.len() == most {
+                input.skip_until(b'\n')?;
+            }
         }
     }
     Ok(true)
+}
+
+#[cfg(test)]
+mod tests {
+    use super::next_line;
+    use std::io;
+    use std::io::{BufRead, Read};
+    use std::test::Fail;
+
+    // An input that a terminal may give: it comes in parts, and an empty part is an end after which more may be typed.
+    #[derive(Drop)]
+    struct Typed<'a> {
+        now: &'a [u8],
+        later: &'a [&'a [u8]],
+    }
+
+    impl Read for Typed<'_> {
+        fn read(&mut self, _buffer: &mut [u8]) -> io::Result<usize> {
+            Ok(0)
+        }
+    }
+
+    impl BufRead for Typed<'_> {
+        fn fill_buf(&mut self) -> io::Result<&[u8]> {
+            if self.now.is_empty() {
+                if let [next, later @ ..] = self.later {
+                    self.now = next;
+                    self.later = later;
+                }
+            }
+            Ok(self.now)
+        }
+
+        fn consume(&mut self, amount: usize) {
+            self.now = self.now.get(amount..).unwrap_or(&[]);
+        }
+    }
+
+    #[test]
+    fn a_line_that_an_end_cuts_off_is_not_read_on(rt: HostRuntime) -> Result<(), Fail> {
+        let mut input = Typed {
+            now: b"abc",
+            later: &[b"", b"def\n"],
+        };
+        let mut line = Vec::new(rt.alloc());
+        assert!(rt; next_line(&mut input, &mut line, 5)?);
+        assert!(rt; line.as_slice() == b"abc".as_slice());
+        assert!(rt; next_line(&mut input, &mut line, 5)?);
+        assert!(rt; line.as_slice() == b"def".as_slice());
+        Ok(())
+    }
 }
